@@ -1,0 +1,6 @@
+mod Asked
+mod LineForms
+mod TextForms
+mod GoingOn
+mod OneLine
+mod OneText

@@ -1,0 +1,5 @@
+pub mod Claims
+pub mod Faults
+pub mod Format
+pub mod Rows
+pub mod Steps

@@ -1,0 +1,62 @@
+// The row model: rows of which each moves somewhere.
+ghost use mathlib.Core.Path.{_≡_};
+ghost use mathlib.Core.List.{_∷_, [], List};
+ghost use mathlib.Core.Logic.{_⊎_};
+ghost use Prim.Native.Nat.{_≤_};
+ghost use Rattle.std.specs.Of.Vec.{vec-items, vec-len};
+ghost use Rattle.std.specs.Results.{Cases};
+ghost use Rattle.std.specs.Vec.{made};
+ghost use Rattle.rows.specs.Claims.{Row-text-has-one-answer};
+ghost use Rattle.rows.specs.Faults.{Earns};
+ghost use Rattle.rows.specs.Format.{Line, Describes, most-rows};
+ghost use Rattle.rows.specs.Rows.{lines-of, resting, Goes-on};
+ghost use Rattle.rows.specs.declared.fault.RowFault.the-variants.{Memory};
+use crate::fault::RowFault;
+use crate::fault::RowFaultFromAlloc;
+use crate::fault::RowFaultFromRefused;
+use crate::lines::read_rows;
+use crate::row::Row;
+use std::alloc::AllocError;
+use std::alloc::Global;
+
+// Few rows, each with a target below the count: so every state has a move, without a test.
+#[derive(Drop)]
+pub struct RowModel {
+    pub(crate) rows: Vec<Row>,
+    ghost few: { vec-len rows ≤ most-rows },
+    ghost goes_on: { Goes-on (vec-items rows) },
+}
+
+impl RowModel {
+    // One unmarked start state that moves to itself.
+    pub fn new(heap: Global) -> Result<RowModel, AllocError>
+        ensures { λ r. ⌜ made r (λ m. lines-of (vec-items (m .rows)) ≡ resting ∷ []) ⌝ }
+    {
+        let mut targets = Vec::new(heap);
+        targets.push(0)?;
+        let mut rows = Vec::new(heap);
+        rows.push(Row {
+            start: true,
+            marks: Vec::new(heap),
+            targets,
+        })?;
+        Ok(RowModel { rows })
+    }
+
+    // Replaces all rows by those that the text describes. A refusal changes nothing and names the
+    // first fault, or want of memory; a text is taken exactly when it describes rows.
+    pub fn fill(&mut self, heap: Global, text: &[u8]) -> Result<(), RowFault>
+        ensures described { λ r. ⌜ Cases r (λ _. Describes (now (text .entry)) (lines-of (vec-items (now (self .exit) .rows)))) (λ _. now (self .exit) ≡ now (self .entry)) ⌝ }
+        ensures fault { λ r. ⌜ Cases r (λ _. Unit {0}) (λ e. (e ≡ Memory) ⊎ Earns (now (text .entry)) e) ⌝ }
+        ensures exact { λ r. ⌜ Cases r (λ _. (ls : List Line) × Describes (now (text .entry)) ls) (λ e. (e ≡ Memory) ⊎ ((ls : List Line) → Describes (now (text .entry)) ls → ⊥)) ⌝ }
+    {
+        let rows = read_rows(heap, text)?;
+        self.rows = rows;
+        Ok(())
+    }
+}
+
+// A row text describes one list of rows or earns one fault, never both.
+pub fn row_text_has_one_answer()
+    ensures { λ _. ⌜ Row-text-has-one-answer ⌝ }
+{}
