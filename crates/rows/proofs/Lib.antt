@@ -1,6 +1,2 @@
 mod Asked
-mod LineForms
-mod TextForms
 mod GoingOn
-mod OneLine
-mod OneText

@@ -1,12 +1,12 @@
 // A row model answers the four questions, and its invariant is the law.
 ghost use Rattle.std.specs.Of.Vec.{vec-items};
-ghost use Rattle.rows.specs.Rows.{lines-of, rows-meaning};
+ghost use Rattle.rows.specs.Rows.{rows-meaning};
 use crate::model::RowModel;
 use model::Model;
 use model::TotalModel;
 
 pub impl Model for RowModel as RowModelAnswers {
-    ghost meaning = { λ m. rows-meaning (lines-of (vec-items (m .rows))) };
+    ghost meaning = { λ m. rows-meaning (vec-items (m .rows)) };
 
     fn count(&self) -> u16 {
         self.rows.len() as u16

@@ -1,7 +1,4 @@
-// The row text and the model that it fills: a channel's control table, a line for each state.
+// The row model: a model that a row text fills.
 pub mod answers;
-pub mod fault;
-mod lines;
+mod checked;
 pub mod model;
-mod reader;
-pub mod row;

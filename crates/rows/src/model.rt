@@ -1,21 +1,17 @@
 // The row model: rows of which each moves somewhere.
 ghost use mathlib.Core.Path.{_≡_};
-ghost use mathlib.Core.List.{_∷_, [], List};
+ghost use mathlib.Core.List.{_∷_, []};
 ghost use mathlib.Core.Logic.{_⊎_};
 ghost use Prim.Native.Nat.{_≤_};
 ghost use Rattle.std.specs.Of.Vec.{vec-items, vec-len};
 ghost use Rattle.std.specs.Results.{Cases};
 ghost use Rattle.std.specs.Vec.{made};
-ghost use Rattle.rows.specs.Claims.{Row-text-has-one-answer};
-ghost use Rattle.rows.specs.Faults.{Earns};
-ghost use Rattle.rows.specs.Format.{Line, Describes, most-rows};
-ghost use Rattle.rows.specs.Rows.{lines-of, resting, Goes-on};
-ghost use Rattle.rows.specs.declared.fault.RowFault.the-variants.{Memory};
-use crate::fault::RowFault;
-use crate::fault::RowFaultFromAlloc;
-use crate::fault::RowFaultFromRefused;
-use crate::lines::read_rows;
-use crate::row::Row;
+ghost use Rattle.rows.specs.Rows.{resting, Goes-on, Refused-text};
+ghost use Rattle.rowtext.specs.Format.{Describes, lines-of, most-rows};
+ghost use Rattle.rowtext.specs.declared.fault.RowFault.the-variants.{Memory};
+use crate::checked::lawful_rows;
+use rowtext::fault::RowFault;
+use rowtext::row::Row;
 use std::alloc::AllocError;
 use std::alloc::Global;
 
@@ -43,20 +39,15 @@ impl RowModel {
         Ok(RowModel { rows })
     }
 
-    // Replaces all rows by those that the text describes. A refusal changes nothing and names the
-    // first fault, or want of memory; a text is taken exactly when it describes rows.
+    // Replaces all rows by those that the text describes. A refusal changes nothing and names want
+    // of memory or the first fault of a text that describes no rows: so a text is taken exactly
+    // when the format has it.
     pub fn fill(&mut self, heap: Global, text: &[u8]) -> Result<(), RowFault>
-        ensures described { λ r. ⌜ Cases r (λ _. Describes (now (text .entry)) (lines-of (vec-items (now (self .exit) .rows)))) (λ _. now (self .exit) ≡ now (self .entry)) ⌝ }
-        ensures fault { λ r. ⌜ Cases r (λ _. Unit {0}) (λ e. (e ≡ Memory) ⊎ Earns (now (text .entry)) e) ⌝ }
-        ensures exact { λ r. ⌜ Cases r (λ _. (ls : List Line) × Describes (now (text .entry)) ls) (λ e. (e ≡ Memory) ⊎ ((ls : List Line) → Describes (now (text .entry)) ls → ⊥)) ⌝ }
+        ensures model { λ r. ⌜ Cases r (λ _. Describes (now (text .entry)) (lines-of (vec-items (now (self .exit) .rows)))) (λ _. now (self .exit) ≡ now (self .entry)) ⌝ }
+        ensures fault { λ r. ⌜ Cases r (λ _. Unit {0}) (λ e. (e ≡ Memory) ⊎ Refused-text (now (text .entry)) e) ⌝ }
     {
-        let rows = read_rows(heap, text)?;
+        let rows = lawful_rows(heap, text)?;
         self.rows = rows;
         Ok(())
     }
 }
-
-// A row text describes one list of rows or earns one fault, never both.
-pub fn row_text_has_one_answer()
-    ensures { λ _. ⌜ Row-text-has-one-answer ⌝ }
-{}

@@ -1,6 +1,0 @@
-use native.Mathlib.Omega.{arith}
-use Rattle.rows.proofs.TextForms.{no-lines-in-nothing}
-use Rattle.rows.proofs.lines.has_lines.Needs as need
-
-pub returns-then-text-eq0 : need.returns-then-text-eq0
-returns-then-text-eq0 c = no-lines-in-nothing (c .args .text .now) (omega arith)

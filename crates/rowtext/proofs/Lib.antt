@@ -1,0 +1,5 @@
+pub mod Described
+mod LineForms
+pub mod OneLine
+pub mod OneText
+mod TextForms
