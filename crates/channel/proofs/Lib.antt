@@ -1,0 +1,3 @@
+mod LastLine
+mod Lengths
+mod OneFile

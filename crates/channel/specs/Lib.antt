@@ -1,0 +1,5 @@
+pub mod Claims
+pub mod Faults
+pub mod Files
+pub mod Listing
+pub mod Steps

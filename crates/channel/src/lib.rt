@@ -1,0 +1,6 @@
+// The channel file: rows, then rules, then a line that says where the rules begin; and its listing.
+pub mod fault;
+pub mod listing;
+mod parts;
+mod rules;
+mod summary;

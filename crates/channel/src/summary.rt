@@ -1,0 +1,28 @@
+// What is told of a lawful file: how many states its rows have, and how many rules there are.
+ghost use Rattle.channel.specs.Steps.{SummaryOr};
+use crate::fault::FileFault;
+use crate::fault::FileFaultFromAlloc;
+use crate::fault::FileFaultFromRows;
+use crate::parts::split;
+use crate::rules::rule_lines;
+use model::Model;
+use rows::answers::RowModelAnswers;
+use rows::model::RowModel;
+use std::alloc::Global;
+
+#[derive(Clone, Copy)]
+pub(crate) struct Summary {
+    pub(crate) states: u16,
+    pub(crate) rules: usize,
+}
+
+pub(crate) fn summary_of(heap: Global, file: &[u8]) -> Result<Summary, FileFault>
+    ensures { λ r. ⌜ SummaryOr (now (file .entry)) r ⌝ }
+{
+    let parts = split(file)?;
+    let mut model = RowModel::new(heap)?;
+    model.fill(heap, parts.rows)?;
+    let states = model.count();
+    let rules = rule_lines(parts.rules);
+    Ok(Summary { states, rules })
+}
