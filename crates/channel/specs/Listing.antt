@@ -57,3 +57,8 @@ Listed file before after (Err r) = Refused file before after r
 -- a buffer that is too short is refused, and nothing is written
 abbrev pub Small-buffer : List ℕ → List ℕ → Result ℕ Refusal → Type 0
 Small-buffer before after r = (r ≡ Err (record { fault = Buffer; length = 0 })) × (after ≡ before)
+
+-- how long the line is that was written, whatever it says
+abbrev pub line-length : Result ℕ Refusal → ℕ
+line-length (Ok n) = n
+line-length (Err r) = r .length

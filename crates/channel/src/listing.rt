@@ -6,7 +6,7 @@ ghost use lib.ListN.{length, drop};
 ghost use Rattle.std.specs.Of.String.{string-bytes};
 ghost use Rattle.std.specs.Vec.{made};
 ghost use Rattle.channel.specs.Claims.{Channel-file-has-one-answer};
-ghost use Rattle.channel.specs.Listing.{Listed, Small-buffer, header, least-buffer, refused-line as refused-bytes};
+ghost use Rattle.channel.specs.Listing.{Listed, Small-buffer, header, least-buffer, line-length, refused-line as refused-bytes};
 ghost use Rattle.channel.specs.Steps.{Line-text, Refuses, TextOr};
 use crate::fault::FileFault;
 use crate::fault::FileFaultFromAlloc;
@@ -60,7 +60,8 @@ fn listing_text(heap: Global, file: &[u8]) -> Result<String, FileFault>
 // Writes the refused line of a fault that has a number.
 fn refuse(heap: Global, fault: FileFault, buffer: &mut [u8]) -> Refusal
     requires { ⌜ least-buffer ≤ length (now buffer) ⌝ }
-    ensures { λ r. ⌜ Refuses fault (now (buffer .entry)) (now (buffer .exit)) r ⌝ }
+    ensures refusal { λ r. ⌜ Refuses fault (now (buffer .entry)) (now (buffer .exit)) r ⌝ }
+    ensures within { λ r. ⌜ r .length ≤ least-buffer ⌝ }
 {
     let Some(number) = fault.number() else {
         return Refusal { fault, length: 0 };
@@ -83,6 +84,7 @@ fn refuse(heap: Global, fault: FileFault, buffer: &mut [u8]) -> Refusal
 pub fn listing(heap: Global, file: &[u8], buffer: &mut [u8]) -> Result<usize, Refusal>
     ensures short { λ r. ⌜ (length (now (buffer .entry)) < least-buffer → Small-buffer (now (buffer .entry)) (now (buffer .exit)) r) ⌝ }
     ensures full { λ r. ⌜ (least-buffer ≤ length (now (buffer .entry)) → Listed (now (file .entry)) (now (buffer .entry)) (now (buffer .exit)) r) ⌝ }
+    ensures within { λ r. ⌜ line-length r ≤ least-buffer ⌝ }
 {
     if buffer.len() < LEAST_BUFFER {
         return Err(Refusal {
