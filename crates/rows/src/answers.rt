@@ -15,7 +15,7 @@ pub impl Model for RowModel as RowModelAnswers {
     fn starts(&self, state: u16) -> bool {
         match self.rows.get(state as usize) {
             Some(row) => row.start,
-            None => false,
+            None => false, // no row, no start
         }
     }
 
