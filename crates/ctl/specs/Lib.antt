@@ -1,1 +1,11 @@
+pub mod Claims
+pub mod Cost
+pub mod Decision
+pub mod Dictionary
 pub mod Formula
+pub mod KPath
+pub mod Search
+pub mod Setwise
+pub mod Truth
+pub mod Verdict
+pub mod Worked

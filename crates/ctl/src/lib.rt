@@ -1,6 +1,9 @@
 // Computation tree logic on a channel's model: what a rule means, and what is proved of that meaning.
 //
 // The operators and the verdict are enums of the code, which the definitions in specs/ use too.
+pub mod setwise;
+pub mod truth;
+pub mod verdicts;
 
 // Over which paths from a state a path part is asked: A and E.
 #[derive(Clone, Copy, PartialEq, Eq, Debug)]

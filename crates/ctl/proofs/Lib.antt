@@ -1,0 +1,11 @@
+pub mod Completing
+pub mod Deciding
+pub mod Duality
+pub mod Guards
+pub mod Judging
+pub mod Lasting
+pub mod Listed
+pub mod Operators
+pub mod Paths
+pub mod Pigeonhole
+pub mod Tests

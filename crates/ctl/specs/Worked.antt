@@ -1,0 +1,136 @@
+-- Worked cases on two small models: verdicts, costs, and the one path that shows a failure. Assumes nothing.
+use mathlib.Core.Bool.{Bool, true, false}
+use mathlib.Core.List.{List, [], _∷_}
+use mathlib.Core.Path.{_≡_}
+use Prim.Native.Nat.{ℕ}
+use lib.Dec.{eqb}
+use lib.ListN.{length, getD}
+use Rattle.model.specs.Meaning.{Meaning, Starts, Total}
+use Rattle.ctl.specs.Cost.{counted, cost}
+use Rattle.ctl.specs.Decision.{or-else}
+use Rattle.ctl.specs.Formula.{Formula, constant, literal, join, path, one, two, negation-part}
+use Rattle.ctl.specs.KPath.{Witness}
+use Rattle.ctl.specs.Verdict.{Verdict-is}
+use Rattle.ctl.specs.declared.Quantifier.the-variants.{All, Exists}
+use Rattle.ctl.specs.declared.Connective.the-variants.{Or}
+use Rattle.ctl.specs.declared.Unary.the-variants.{Eventually, Always}
+use Rattle.ctl.specs.declared.Binary.the-variants.{Release}
+use Rattle.ctl.specs.declared.Verdict.{Verdict}
+use Rattle.ctl.specs.declared.Verdict.the-variants.{Holds, Fails, Undecided}
+
+-- what a table says of one state: is it a start, its letters, where it moves to
+pub record Row : Type 0 where
+  pub starts : Bool
+  pub marks : List ℕ
+  pub targets : List ℕ
+
+abbrev pub contains : ℕ → List ℕ → Bool
+contains x [] = false
+contains x (y ∷ ys) = or-else (eqb x y) (λ _. contains x ys)
+
+abbrev pub no-row : Row
+no-row = record { starts = false; marks = []; targets = [] }
+
+-- the model of a table, row s for state s
+abbrev pub model-of : List Row → Meaning
+model-of rows = record {
+  count = length rows;
+  start = λ s. getD rows s no-row .starts;
+  moves = λ s t. contains t (getD rows s no-row .targets);
+  mark = λ s c. contains c (getD rows s no-row .marks);
+}
+
+-- the letters a, c, f, n and o by their bytes
+abbrev pub a : ℕ
+a = 97
+
+abbrev pub c : ℕ
+c = 99
+
+abbrev pub f : ℕ
+f = 102
+
+abbrev pub n : ℕ
+n = 110
+
+abbrev pub o : ℕ
+o = 111
+
+-- four states: *n>1, -c>2, -o>0,3 and -f>0
+abbrev pub four-rows : List Row
+four-rows =
+    record { starts = true; marks = n ∷ []; targets = 1 ∷ [] }
+    ∷ record { starts = false; marks = c ∷ []; targets = 2 ∷ [] }
+    ∷ record { starts = false; marks = o ∷ []; targets = 0 ∷ 3 ∷ [] }
+    ∷ record { starts = false; marks = f ∷ []; targets = 0 ∷ [] }
+    ∷ []
+
+abbrev pub four : Meaning
+four = model-of four-rows
+
+-- one state with no letter, a start, that moves to itself
+abbrev pub single-rows : List Row
+single-rows = record { starts = true; marks = []; targets = 0 ∷ [] } ∷ []
+
+abbrev pub single : Meaning
+single = model-of single-rows
+
+-- AG(!c|AF o)
+abbrev pub call-answered : Formula
+call-answered = path All (one Always (join Or (literal false c) (path All (one Eventually (literal true o)))))
+
+-- EF f
+abbrev pub may-finish : Formula
+may-finish = path Exists (one Eventually (literal true f))
+
+-- AF f
+abbrev pub must-finish : Formula
+must-finish = path All (one Eventually (literal true f))
+
+-- E(o R n)
+abbrev pub idle-released : Formula
+idle-released = path Exists (two Release (literal true o) (literal true n))
+
+-- E(n R c)
+abbrev pub call-released : Formula
+call-released = path Exists (two Release (literal true n) (literal true c))
+
+-- AG 1
+abbrev pub always-so : Formula
+always-so = path All (one Always (constant true))
+
+-- AG a
+abbrev pub always-a : Formula
+always-a = path All (one Always (literal true a))
+
+-- the verdict on the rule at bound k is v, and the rule costs this many looks there
+abbrev pub Judged : Meaning → Formula → ℕ → Verdict → ℕ → Type 0
+Judged m g k v looks = Verdict-is m g k v × (cost m (counted m) g k ≡ looks)
+
+-- 0, 1, 2, 0
+abbrev pub round-trip : List ℕ
+round-trip = 0 ∷ 1 ∷ 2 ∷ 0 ∷ []
+
+-- the worked cases, all of them; AF f fails by the path 0, 1, 2, 0, and no other 3-path from a start shows it
+pub record Worked-cases : Type 0 where
+  pub four-total : Total four
+  pub single-total : Total single
+  pub call-answered-0 : Judged four call-answered 0 Undecided 4
+  pub call-answered-1 : Judged four call-answered 1 Undecided 8
+  pub call-answered-2 : Judged four call-answered 2 Undecided 12
+  pub call-answered-3 : Judged four call-answered 3 Undecided 19
+  pub call-answered-4 : Judged four call-answered 4 Holds 0
+  pub may-finish-2 : Judged four may-finish 2 Undecided 12
+  pub may-finish-3 : Judged four may-finish 3 Holds 19
+  pub must-finish-2 : Judged four must-finish 2 Undecided 0
+  pub must-finish-3 : Judged four must-finish 3 Fails 0
+  pub must-finish-start : Starts four 0 ≡ true
+  pub must-finish-path : Witness four (negation-part (one Eventually (literal true f))) 3 0 round-trip
+  pub must-finish-only : (s : ℕ) (l : List ℕ) → Starts four s ≡ true
+      → Witness four (negation-part (one Eventually (literal true f))) 3 s l → (s ≡ 0) × (l ≡ round-trip)
+  pub idle-released-0 : Judged four idle-released 0 Undecided 0
+  pub idle-released-1 : Judged four idle-released 1 Fails 0
+  pub call-released-0 : Judged four call-released 0 Fails 0
+  pub always-so-0 : Judged single always-so 0 Undecided 1
+  pub always-so-1 : Judged single always-so 1 Holds 0
+  pub always-a-0 : Judged single always-a 0 Fails 1
