@@ -1,11 +1,14 @@
 pub mod Completing
+pub mod Computed
 pub mod Deciding
 pub mod Duality
 pub mod Guards
 pub mod Judging
 pub mod Lasting
 pub mod Listed
+pub mod Looking
 pub mod Operators
 pub mod Paths
 pub mod Pigeonhole
+pub mod Simple
 pub mod Tests

@@ -1,9 +1,11 @@
 // Computation tree logic on a channel's model: what a rule means, and what is proved of that meaning.
 //
 // The operators and the verdict are enums of the code, which the definitions in specs/ use too.
+pub mod looks;
 pub mod setwise;
 pub mod truth;
 pub mod verdicts;
+pub mod worked;
 
 // Over which paths from a state a path part is asked: A and E.
 #[derive(Clone, Copy, PartialEq, Eq, Debug)]
