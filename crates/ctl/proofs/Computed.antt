@@ -1,18 +1,17 @@
 -- The worked cases, computed.
-use mathlib.Core.Path.{_≡_, refl, sym, _∙_, ap, subst}
-use mathlib.Core.Bool.{Bool, true, false, false≢true, true≢false}
+use mathlib.Core.Path.{_≡_, refl, subst}
+use mathlib.Core.Bool.{true, false, false≢true, true≢false}
 use mathlib.Core.List.{List, [], _∷_}
-use mathlib.Core.Logic.{_⊎_, inl, inr, ⊎-elim}
-use Prim.Native.Nat.{ℕ, zero, suc, _<_, _≤_}
+use Prim.Native.Nat.{ℕ, zero, suc, _<_}
 use native.Mathlib.Omega.{arith}
-use lib.ListN.{length}
 use Rattle.model.specs.Meaning.{Meaning, Starts, Moves, Carries, Total}
-use Rattle.ctl.specs.Cost.{counted, cost}
+use Rattle.ctl.specs.Cost.{cost}
 use Rattle.ctl.specs.Decision.{any-below, all-below, verdict}
 use Rattle.ctl.specs.Formula.{Formula, PathPart, literal, one, negation-part}
-use Rattle.ctl.specs.KPath.{place, K-path, Witness}
+use Rattle.ctl.specs.KPath.{place, Witness}
+use Rattle.ctl.specs.States.{counted}
 use Rattle.ctl.specs.Verdict.{Verdict-is}
-use Rattle.ctl.specs.Worked.{f, four, single, call-answered, may-finish, must-finish, idle-released, call-released, always-so, always-a, Judged, round-trip, Worked-cases}
+use Rattle.ctl.specs.Worked.{f, four, single, AG-c-AF-o, EF-f, AF-f, E-o-R-n, E-n-R-c, AG-1, AG-a, Judged, round-trip, Worked-cases}
 use Rattle.ctl.specs.declared.Unary.the-variants.{Eventually}
 use Rattle.ctl.specs.declared.Verdict.{Verdict}
 use Rattle.ctl.specs.declared.Verdict.the-variants.{Holds, Fails, Undecided}
@@ -91,22 +90,22 @@ pub worked : Worked-cases
 worked = record {
   four-total = total-by-test four refl;
   single-total = total-by-test single refl;
-  call-answered-0 = judged four call-answered 0 Undecided 4 refl refl;
-  call-answered-1 = judged four call-answered 1 Undecided 8 refl refl;
-  call-answered-2 = judged four call-answered 2 Undecided 12 refl refl;
-  call-answered-3 = judged four call-answered 3 Undecided 19 refl refl;
-  call-answered-4 = judged four call-answered 4 Holds 0 refl refl;
-  may-finish-2 = judged four may-finish 2 Undecided 12 refl refl;
-  may-finish-3 = judged four may-finish 3 Holds 19 refl refl;
-  must-finish-2 = judged four must-finish 2 Undecided 0 refl refl;
-  must-finish-3 = judged four must-finish 3 Fails 0 refl refl;
-  must-finish-start = refl;
-  must-finish-path = round-trip-shows;
-  must-finish-only = λ s l h w. let e = start-of-four s h in (e, only-round-trip l (subst (λ z. Witness four never-f 3 z l) e w));
-  idle-released-0 = judged four idle-released 0 Undecided 0 refl refl;
-  idle-released-1 = judged four idle-released 1 Fails 0 refl refl;
-  call-released-0 = judged four call-released 0 Fails 0 refl refl;
-  always-so-0 = judged single always-so 0 Undecided 1 refl refl;
-  always-so-1 = judged single always-so 1 Holds 0 refl refl;
-  always-a-0 = judged single always-a 0 Fails 1 refl refl;
+  AG-c-AF-o-at-0 = judged four AG-c-AF-o 0 Undecided 4 refl refl;
+  AG-c-AF-o-at-1 = judged four AG-c-AF-o 1 Undecided 8 refl refl;
+  AG-c-AF-o-at-2 = judged four AG-c-AF-o 2 Undecided 12 refl refl;
+  AG-c-AF-o-at-3 = judged four AG-c-AF-o 3 Undecided 19 refl refl;
+  AG-c-AF-o-at-4 = judged four AG-c-AF-o 4 Holds 0 refl refl;
+  EF-f-at-2 = judged four EF-f 2 Undecided 12 refl refl;
+  EF-f-at-3 = judged four EF-f 3 Holds 19 refl refl;
+  AF-f-at-2 = judged four AF-f 2 Undecided 0 refl refl;
+  AF-f-at-3 = judged four AF-f 3 Fails 0 refl refl;
+  AF-f-start = refl;
+  AF-f-path = round-trip-shows;
+  AF-f-only = λ s l h w. let e = start-of-four s h in (e, only-round-trip l (subst (λ z. Witness four never-f 3 z l) e w));
+  E-o-R-n-at-0 = judged four E-o-R-n 0 Undecided 0 refl refl;
+  E-o-R-n-at-1 = judged four E-o-R-n 1 Fails 0 refl refl;
+  E-n-R-c-at-0 = judged four E-n-R-c 0 Fails 0 refl refl;
+  AG-1-at-0 = judged single AG-1 0 Undecided 1 refl refl;
+  AG-1-at-1 = judged single AG-1 1 Holds 0 refl refl;
+  AG-a-at-0 = judged single AG-a 0 Fails 1 refl refl;
 }

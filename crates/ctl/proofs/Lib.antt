@@ -1,5 +1,7 @@
+pub mod Agreement
 pub mod Completing
 pub mod Computed
+pub mod Counted
 pub mod Counting
 pub mod Deciding
 pub mod Duality

@@ -6,6 +6,7 @@ pub mod Formula
 pub mod KPath
 pub mod Search
 pub mod Setwise
+pub mod States
 pub mod Truth
 pub mod Verdict
 pub mod Worked

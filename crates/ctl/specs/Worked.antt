@@ -6,10 +6,11 @@ use Prim.Native.Nat.{ℕ}
 use lib.Dec.{eqb}
 use lib.ListN.{length, getD}
 use Rattle.model.specs.Meaning.{Meaning, Starts, Total}
-use Rattle.ctl.specs.Cost.{counted, cost}
+use Rattle.ctl.specs.Cost.{cost}
 use Rattle.ctl.specs.Decision.{or-else}
 use Rattle.ctl.specs.Formula.{Formula, constant, literal, join, path, one, two, negation-part}
 use Rattle.ctl.specs.KPath.{Witness}
+use Rattle.ctl.specs.States.{counted}
 use Rattle.ctl.specs.Verdict.{Verdict-is}
 use Rattle.ctl.specs.declared.Quantifier.the-variants.{All, Exists}
 use Rattle.ctl.specs.declared.Connective.the-variants.{Or}
@@ -76,32 +77,32 @@ abbrev pub single : Meaning
 single = model-of single-rows
 
 -- AG(!c|AF o)
-abbrev pub call-answered : Formula
-call-answered = path All (one Always (join Or (literal false c) (path All (one Eventually (literal true o)))))
+abbrev pub AG-c-AF-o : Formula
+AG-c-AF-o = path All (one Always (join Or (literal false c) (path All (one Eventually (literal true o)))))
 
 -- EF f
-abbrev pub may-finish : Formula
-may-finish = path Exists (one Eventually (literal true f))
+abbrev pub EF-f : Formula
+EF-f = path Exists (one Eventually (literal true f))
 
 -- AF f
-abbrev pub must-finish : Formula
-must-finish = path All (one Eventually (literal true f))
+abbrev pub AF-f : Formula
+AF-f = path All (one Eventually (literal true f))
 
 -- E(o R n)
-abbrev pub idle-released : Formula
-idle-released = path Exists (two Release (literal true o) (literal true n))
+abbrev pub E-o-R-n : Formula
+E-o-R-n = path Exists (two Release (literal true o) (literal true n))
 
 -- E(n R c)
-abbrev pub call-released : Formula
-call-released = path Exists (two Release (literal true n) (literal true c))
+abbrev pub E-n-R-c : Formula
+E-n-R-c = path Exists (two Release (literal true n) (literal true c))
 
 -- AG 1
-abbrev pub always-so : Formula
-always-so = path All (one Always (constant true))
+abbrev pub AG-1 : Formula
+AG-1 = path All (one Always (constant true))
 
 -- AG a
-abbrev pub always-a : Formula
-always-a = path All (one Always (literal true a))
+abbrev pub AG-a : Formula
+AG-a = path All (one Always (literal true a))
 
 -- the verdict on the rule at bound k is v, and the rule costs this many looks there
 abbrev pub Judged : Meaning → Formula → ℕ → Verdict → ℕ → Type 0
@@ -115,22 +116,22 @@ round-trip = 0 ∷ 1 ∷ 2 ∷ 0 ∷ []
 pub record Worked-cases : Type 0 where
   pub four-total : Total four
   pub single-total : Total single
-  pub call-answered-0 : Judged four call-answered 0 Undecided 4
-  pub call-answered-1 : Judged four call-answered 1 Undecided 8
-  pub call-answered-2 : Judged four call-answered 2 Undecided 12
-  pub call-answered-3 : Judged four call-answered 3 Undecided 19
-  pub call-answered-4 : Judged four call-answered 4 Holds 0
-  pub may-finish-2 : Judged four may-finish 2 Undecided 12
-  pub may-finish-3 : Judged four may-finish 3 Holds 19
-  pub must-finish-2 : Judged four must-finish 2 Undecided 0
-  pub must-finish-3 : Judged four must-finish 3 Fails 0
-  pub must-finish-start : Starts four 0 ≡ true
-  pub must-finish-path : Witness four (negation-part (one Eventually (literal true f))) 3 0 round-trip
-  pub must-finish-only : (s : ℕ) (l : List ℕ) → Starts four s ≡ true
+  pub AG-c-AF-o-at-0 : Judged four AG-c-AF-o 0 Undecided 4
+  pub AG-c-AF-o-at-1 : Judged four AG-c-AF-o 1 Undecided 8
+  pub AG-c-AF-o-at-2 : Judged four AG-c-AF-o 2 Undecided 12
+  pub AG-c-AF-o-at-3 : Judged four AG-c-AF-o 3 Undecided 19
+  pub AG-c-AF-o-at-4 : Judged four AG-c-AF-o 4 Holds 0
+  pub EF-f-at-2 : Judged four EF-f 2 Undecided 12
+  pub EF-f-at-3 : Judged four EF-f 3 Holds 19
+  pub AF-f-at-2 : Judged four AF-f 2 Undecided 0
+  pub AF-f-at-3 : Judged four AF-f 3 Fails 0
+  pub AF-f-start : Starts four 0 ≡ true
+  pub AF-f-path : Witness four (negation-part (one Eventually (literal true f))) 3 0 round-trip
+  pub AF-f-only : (s : ℕ) (l : List ℕ) → Starts four s ≡ true
       → Witness four (negation-part (one Eventually (literal true f))) 3 s l → (s ≡ 0) × (l ≡ round-trip)
-  pub idle-released-0 : Judged four idle-released 0 Undecided 0
-  pub idle-released-1 : Judged four idle-released 1 Fails 0
-  pub call-released-0 : Judged four call-released 0 Fails 0
-  pub always-so-0 : Judged single always-so 0 Undecided 1
-  pub always-so-1 : Judged single always-so 1 Holds 0
-  pub always-a-0 : Judged single always-a 0 Fails 1
+  pub E-o-R-n-at-0 : Judged four E-o-R-n 0 Undecided 0
+  pub E-o-R-n-at-1 : Judged four E-o-R-n 1 Fails 0
+  pub E-n-R-c-at-0 : Judged four E-n-R-c 0 Fails 0
+  pub AG-1-at-0 : Judged single AG-1 0 Undecided 1
+  pub AG-1-at-1 : Judged single AG-1 1 Holds 0
+  pub AG-a-at-0 : Judged single AG-a 0 Fails 1
