@@ -27,7 +27,8 @@ total-by-test m e s h =
     (λ s _. decides-any (λ t. Moves m s t) (λ t. Moves m s t ≡ true) (m .count) (λ t _. decides-yes (Moves m s t))) .0 e s h in
     (t .0, t .2)
 
-judged : (m : Meaning) (g : Formula) (k : ℕ) (v : Verdict) (looks : ℕ) → verdict m g k ≡ v → cost m (counted m) g k ≡ looks → Judged m g k v looks
+judged : (m : Meaning) (g : Formula) (k : ℕ) (v : Verdict) (looks : ℕ) → verdict m g k ≡ v → cost m (counted m) g k ≡ looks
+    → Judged m g k v looks
 judged m g k v looks e c = (subst (Verdict-is m g k) e (verdict-is m g k), c)
 
 -- what shows that AF f fails: f at no place, and a repeat
