@@ -2,6 +2,7 @@
 use mathlib.Core.Path.{_≡_, refl, subst}
 use mathlib.Core.Bool.{true, false, false≢true, true≢false}
 use mathlib.Core.List.{List, [], _∷_}
+use mathlib.Core.Logic.{inr}
 use Prim.Native.Nat.{ℕ, zero, suc, _<_}
 use native.Mathlib.Omega.{arith}
 use Rattle.model.specs.Meaning.{Meaning, Starts, Moves, Carries, Total}
@@ -11,13 +12,14 @@ use Rattle.ctl.specs.Formula.{Formula, PathPart, literal, one, negation-part}
 use Rattle.ctl.specs.KPath.{place, Witness}
 use Rattle.ctl.specs.States.{counted}
 use Rattle.ctl.specs.Verdict.{Verdict-is}
-use Rattle.ctl.specs.Worked.{f, four, single, AG-c-AF-o, EF-f, AF-f, E-o-R-n, E-n-R-c, AG-1, AG-a, Judged, round-trip, Worked-cases}
+use Rattle.ctl.specs.Worked.{f, four, single, AG-c-AF-o, EF-f, AF-f, E-o-R-n, E-n-R-c, AG-1, AG-a, Judged, round-trip, Worked-cases, Readings-differ}
 use Rattle.ctl.specs.declared.Unary.the-variants.{Eventually}
 use Rattle.ctl.specs.declared.Verdict.{Verdict}
 use Rattle.ctl.specs.declared.Verdict.the-variants.{Holds, Fails, Undecided}
-use Rattle.ctl.proofs.Deciding.{decides-along}
+use Rattle.ctl.proofs.Deciding.{decides, decides-along}
 use Rattle.ctl.proofs.Guards.{moves-to-a-state, starts-at-a-state}
 use Rattle.ctl.proofs.Judging.{verdict-is}
+use Rattle.ctl.proofs.Paths.{no-moves}
 use Rattle.ctl.proofs.Tests.{decides-any, decides-all, decides-yes}
 
 -- a model is total if a test says that each state moves on
@@ -109,4 +111,14 @@ worked = record {
   AG-1-at-0 = judged single AG-1 0 Undecided 1 refl refl;
   AG-1-at-1 = judged single AG-1 1 Holds 0 refl refl;
   AG-a-at-0 = judged single AG-a 0 Fails 1 refl refl;
+}
+
+pub differ : Readings-differ
+differ = record {
+  not-shown = (worked .AG-c-AF-o-at-0 .0 .0, worked .AG-c-AF-o-at-4 .0);
+  not-repeated = ((λ p h i w. refl), λ t. false≢true (decides single AG-1 0 0 .1 t));
+  own-place = (
+    ((λ _. 0), no-moves four 0 (λ _. 0) refl, ((λ i w. inr (0, omega arith, refl)), (0, omega arith, refl))),
+    worked .E-n-R-c-at-0 .0,
+  );
 }

@@ -13,6 +13,7 @@ pub mod Lasting
 pub mod Listed
 pub mod Looking
 pub mod Operators
+pub mod Ordering
 pub mod Paths
 pub mod Pigeonhole
 pub mod Rounds

@@ -1,8 +1,10 @@
--- Worked cases on two small models: verdicts, costs, and the one path that shows a failure. Assumes nothing.
+-- Worked cases on two small models: verdicts, costs, the one path that shows a failure, and what three wrong readings
+-- would say. Assumes nothing.
 use mathlib.Core.Bool.{Bool, true, false}
 use mathlib.Core.List.{List, [], _∷_}
+use mathlib.Core.Logic.{_⊎_}
 use mathlib.Core.Path.{_≡_}
-use Prim.Native.Nat.{ℕ}
+use Prim.Native.Nat.{ℕ, _≤_}
 use lib.Dec.{eqb}
 use lib.ListN.{length, getD}
 use Rattle.model.specs.Meaning.{Meaning, Starts, Total}
@@ -11,7 +13,8 @@ use Rattle.ctl.specs.Decision.{or-else}
 use Rattle.ctl.specs.Formula.{Formula, constant, literal, join, path, one, two, negation-part}
 use Rattle.ctl.specs.KPath.{Witness}
 use Rattle.ctl.specs.States.{counted}
-use Rattle.ctl.specs.Verdict.{Verdict-is}
+use Rattle.ctl.specs.Truth.{upto, Somewhere, Over, True}
+use Rattle.ctl.specs.Verdict.{Holds-at, Fails-at, Verdict-is}
 use Rattle.ctl.specs.declared.Quantifier.the-variants.{All, Exists}
 use Rattle.ctl.specs.declared.Connective.the-variants.{Or}
 use Rattle.ctl.specs.declared.Unary.the-variants.{Eventually, Always}
@@ -135,3 +138,16 @@ pub record Worked-cases : Type 0 where
   pub AG-1-at-0 : Judged single AG-1 0 Undecided 1
   pub AG-1-at-1 : Judged single AG-1 1 Holds 0
   pub AG-a-at-0 : Judged single AG-a 0 Fails 1
+
+-- three readings that would spoil a verdict, each at a case that tells it from the right one
+pub record Readings-differ : Type 0 where
+  -- 'not shown to hold' taken as 'fails': at 0 this rule is not shown to hold, and yet it holds
+  pub not-shown : (Holds-at four AG-c-AF-o 0 → ⊥) × Holds-at four AG-c-AF-o 4
+  -- G granted on a path that has not repeated: AG 1 would be true at 0
+  pub not-repeated : Over All single (upto 0) 0 (λ p. (i : ℕ) → i ≤ 0 → True single (constant true) (upto 0) (p i))
+      × (True single AG-1 (upto 0) 0 → ⊥)
+  -- R's releasing state excusing its own place: E(n R c) would be true at the start at 0, where it fails
+  pub own-place : Over Exists four (upto 0) 0 (λ p.
+      ((i : ℕ) → i ≤ 0 → True four (literal true c) (upto 0) (p i) ⊎ ((j : ℕ) × (j ≤ i) × True four (literal true n) (upto 0) (p j)))
+      × Somewhere (True four (literal true n) (upto 0)) (upto 0) p)
+      × Fails-at four E-n-R-c 0

@@ -1,14 +1,14 @@
 // What is proved of simple paths and of the cost in looks. Each function's contract is a theorem; the body does nothing.
-ghost use Rattle.ctl.specs.Claims.{Simple-paths-are-listed, Extensions-follow, No-room, Free-node-loses-nothing, Free-from-the-size, Free-where-decided};
+ghost use Rattle.ctl.specs.Claims.{Simple-paths-are-listed, Orders-lists, No-room, Free-node-loses-nothing, Free-from-the-size, Free-where-decided};
 
 // The list of simple paths has each of them and nothing else, in dictionary order; the share counts to the first whole one.
 pub fn simple_paths_are_listed()
     ensures { λ _. ⌜ Simple-paths-are-listed ⌝ }
 {}
 
-// In a dictionary each list stands before its extensions.
-pub fn extensions_follow()
-    ensures { λ _. ⌜ Extensions-follow ⌝ }
+// The dictionary order is a strict total order, and each list stands before its extensions.
+pub fn orders_lists()
+    ensures { λ _. ⌜ Orders-lists ⌝ }
 {}
 
 // Where the bound is at least the size of N, no simple path inside N has that many moves;
