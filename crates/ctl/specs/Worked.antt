@@ -28,10 +28,12 @@ pub record Row : Type 0 where
   pub marks : List ℕ
   pub targets : List ℕ
 
+-- the number stands in the list
 abbrev pub contains : ℕ → List ℕ → Bool
 contains x [] = false
 contains x (y ∷ ys) = or-else (eqb x y) (λ _. contains x ys)
 
+-- what is read past the last row
 abbrev pub no-row : Row
 no-row = record { starts = false; marks = []; targets = [] }
 
@@ -44,7 +46,7 @@ model-of rows = record {
   mark = λ s c. contains c (getD rows s no-row .marks);
 }
 
--- the letters a, c, f, n and o by their bytes
+-- the letter a by its byte, and so on
 abbrev pub a : ℕ
 a = 97
 
@@ -69,6 +71,7 @@ four-rows =
     ∷ record { starts = false; marks = f ∷ []; targets = 0 ∷ [] }
     ∷ []
 
+-- the model of these four rows
 abbrev pub four : Meaning
 four = model-of four-rows
 
@@ -76,6 +79,7 @@ four = model-of four-rows
 abbrev pub single-rows : List Row
 single-rows = record { starts = true; marks = []; targets = 0 ∷ [] } ∷ []
 
+-- the model of this one row
 abbrev pub single : Meaning
 single = model-of single-rows
 

@@ -11,12 +11,12 @@ pub fn orders_lists()
     ensures { λ _. ⌜ Orders-lists ⌝ }
 {}
 
-// Where the bound is at least the size of N, no simple path inside N has that many moves;
+// Where the bound is at least the size of N, no simple path inside N has that many moves.
 pub fn no_room()
     ensures { λ _. ⌜ No-room ⌝ }
 {}
 
-// so a node that costs nothing loses nothing.
+// A node that costs nothing loses nothing: every path then meets f or repeats.
 pub fn free_node_loses_nothing()
     ensures { λ _. ⌜ Free-node-loses-nothing ⌝ }
 {}

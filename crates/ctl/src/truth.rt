@@ -16,17 +16,17 @@ pub fn truth_is_for_ever()
     ensures { λ _. ⌜ Truth-is-for-ever ⌝ }
 {}
 
-// A rule and its negation are never both true over endless paths,
+// A rule and its negation are never both true over endless paths.
 pub fn never_both_for_ever()
     ensures { λ _. ⌜ Never-both-for-ever ⌝ }
 {}
 
-// nor at a bound,
+// A rule and its negation are never both true at a bound.
 pub fn never_both_at_a_bound()
     ensures { λ _. ⌜ Never-both-at-a-bound ⌝ }
 {}
 
-// nor one at a bound and the other at another.
+// A rule is never true at a bound and its negation at another.
 pub fn never_both_across_bounds()
     ensures { λ _. ⌜ Never-both-across-bounds ⌝ }
 {}
