@@ -1,5 +1,5 @@
 // What is proved of truth at a bound and over endless paths. Each function's contract is a theorem; the body does nothing.
-ghost use Rattle.ctl.specs.Claims.{Negation-undoes-itself, Truth-lasts, Truth-is-for-ever, Never-both-for-ever, Never-both-at-a-bound, Never-both-across-bounds, Decided-in-a-closed-set, Decided-from-the-count, Decidable, Paths-are-lists};
+ghost use Rattle.ctl.specs.Claims.{Negation-undoes-itself, Truth-lasts, Truth-is-for-ever, Never-both-for-ever, Never-both-at-a-bound, Never-both-across-bounds, Decided-in-a-closed-set, Decided-from-the-count, Exact-from-the-count, Decidable, Paths-are-lists};
 
 // Negating a normal form twice gives it back.
 pub fn negation_undoes_itself()
@@ -39,6 +39,11 @@ pub fn decided_in_a_closed_set()
 // From the count of states up, at every state, the rule or its negation is true.
 pub fn decided_from_the_count()
     ensures { λ _. ⌜ Decided-from-the-count ⌝ }
+{}
+
+// From the count of states up, truth at a bound is exactly truth over endless paths.
+pub fn exact_from_the_count()
+    ensures { λ _. ⌜ Exact-from-the-count ⌝ }
 {}
 
 // A computed test says yes exactly where the rule is true at the bound.
