@@ -6,11 +6,11 @@ use mathlib.Core.Logic.{inr}
 use Prim.Native.Nat.{ℕ, zero, suc, _<_}
 use native.Mathlib.Omega.{arith}
 use Rattle.model.specs.Meaning.{Meaning, Starts, Moves, Carries, Total}
-use Rattle.ctl.specs.Cost.{cost}
-use Rattle.ctl.specs.Decision.{any-below, all-below, verdict}
+use Rattle.ctl.specs.Cost.{cost-at}
+use Rattle.ctl.specs.Decision.{any-below, all-below, verdict-at}
 use Rattle.ctl.specs.Formula.{Formula, PathPart, literal, one, negation-part}
-use Rattle.ctl.specs.KPath.{place, Witness}
-use Rattle.ctl.specs.States.{counted}
+use Rattle.ctl.specs.KPath.{state-at, Witness}
+use Rattle.ctl.specs.States.{states-that-count}
 use Rattle.ctl.specs.Verdict.{Verdict-is}
 use Rattle.ctl.specs.Worked.{f, four, single, AG-c-AF-o, EF-f, AF-f, E-o-R-n, E-n-R-c, AG-1, AG-a, Judged, round-trip, Worked-cases, Readings-differ}
 use Rattle.ctl.specs.declared.Unary.the-variants.{Eventually}
@@ -29,7 +29,7 @@ total-by-test m e s h =
     (λ s _. decides-any (λ t. Moves m s t) (λ t. Moves m s t ≡ true) (m .count) (λ t _. decides-yes (Moves m s t))) .0 e s h in
     (t .0, t .2)
 
-judged : (m : Meaning) (g : Formula) (k : ℕ) (v : Verdict) (looks : ℕ) → verdict m g k ≡ v → cost m (counted m) g k ≡ looks
+judged : (m : Meaning) (g : Formula) (k : ℕ) (v : Verdict) (looks : ℕ) → verdict-at m g k ≡ v → cost-at m (states-that-count m) g k ≡ looks
     → Judged m g k v looks
 judged m g k v looks e c = (subst (Verdict-is m g k) e (verdict-is m g k), c)
 
@@ -42,8 +42,8 @@ round-trip-shows = record {
   path = record {
     states = refl;
     first = refl;
-    step = decides-all (λ i. Moves four (place round-trip i) (place round-trip (suc i))) (λ i. Moves four (place round-trip i) (place round-trip (suc i)) ≡ true) 3
-        (λ i _. decides-yes (Moves four (place round-trip i) (place round-trip (suc i)))) .0 refl;
+    step = decides-all (λ i. Moves four (state-at round-trip i) (state-at round-trip (suc i))) (λ i. Moves four (state-at round-trip i) (state-at round-trip (suc i)) ≡ true) 3
+        (λ i _. decides-yes (Moves four (state-at round-trip i) (state-at round-trip (suc i)))) .0 refl;
   };
   along = decides-along four never-f 3 round-trip .0 refl;
 }

@@ -8,11 +8,11 @@ use Prim.Native.Nat.{ℕ, _≤_}
 use lib.Dec.{eqb}
 use lib.ListN.{length, getD}
 use Rattle.model.specs.Meaning.{Meaning, Starts, Total}
-use Rattle.ctl.specs.Cost.{cost}
+use Rattle.ctl.specs.Cost.{cost-at}
 use Rattle.ctl.specs.Decision.{or-else}
 use Rattle.ctl.specs.Formula.{Formula, constant, literal, join, path, one, two, negation-part}
 use Rattle.ctl.specs.KPath.{Witness}
-use Rattle.ctl.specs.States.{counted}
+use Rattle.ctl.specs.States.{states-that-count}
 use Rattle.ctl.specs.Truth.{upto, Somewhere, Over, True}
 use Rattle.ctl.specs.Verdict.{Holds-at, Fails-at, Verdict-is}
 use Rattle.ctl.specs.declared.Quantifier.the-variants.{All, Exists}
@@ -113,7 +113,7 @@ AG-a = path All (one Always (literal true a))
 
 -- the verdict on the rule at bound k is v, and the rule costs this many looks there
 abbrev pub Judged : Meaning → Formula → ℕ → Verdict → ℕ → Type 0
-Judged m g k v looks = Verdict-is m g k v × (cost m (counted m) g k ≡ looks)
+Judged m g k v looks = Verdict-is m g k v × (cost-at m (states-that-count m) g k ≡ looks)
 
 -- 0, 1, 2, 0
 abbrev pub round-trip : List ℕ
