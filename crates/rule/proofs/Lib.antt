@@ -1,2 +1,9 @@
+pub mod Cases
 pub mod Sizes
 pub mod Trees
+pub mod Walks
+pub mod Spacing
+pub mod Completions
+pub mod Reaches
+pub mod Formulas
+pub mod Earned

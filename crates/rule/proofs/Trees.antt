@@ -1,15 +1,11 @@
 -- Trees with equal formulas are the same tree.
-use Prim.Native.Nat.{ℕ}
 use mathlib.Core.Path.{_≡_}
-use native.Mathlib.Omega.{arith}
 use Rattle.ctl.specs.Formula.{Formula, PathPart as PartFormula, constant, literal, join, path, one, two}
 use Rattle.rule.specs.Tree.{formula, part-formula, Same, Same-part}
 use Rattle.rule.specs.declared.tree.Rule.{Rule}
 use Rattle.rule.specs.declared.tree.PathPart.{PathPart}
 use Rattle.rule.specs.declared.tree.PathPart.the-variants.{Constant, Literal, Join′, Path′, One, Two}
-
-zero-is-not-one : _≡_ {A = ℕ} 0 1 → ⊥
-zero-is-not-one e = omega arith
+use Rattle.rule.proofs.Cases.{zero-is-not-one}
 
 mutual
   pub one-to-one : (f g : Rule) → formula f ≡ formula g → Same f g
