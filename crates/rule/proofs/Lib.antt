@@ -7,3 +7,4 @@ pub mod Completions
 pub mod Reaches
 pub mod Formulas
 pub mod Earned
+pub mod Places
