@@ -8,3 +8,5 @@ pub mod Reaches
 pub mod Formulas
 pub mod Earned
 pub mod Places
+pub mod Halting
+pub mod Answered

@@ -7,7 +7,7 @@ use lib.ListN.{length, drop, getD, drop-of-length-le}
 use lib.Seq.{drop-cons}
 use Rattle.rule.specs.Grammar.{Spaces, none, more, Reads, here}
 use Rattle.rule.specs.Signs.{sign-of}
-use Rattle.rule.specs.Walk.{first}
+use Rattle.rule.specs.Walk.{first, Clear}
 use Rattle.rule.specs.declared.sign.Sign.{Sign}
 use Rattle.rule.specs.declared.sign.Sign.the-variants.{Space}
 use Rattle.std.specs.declared.option.Option.{Option}
@@ -21,6 +21,9 @@ first-at-place text n h = ap first (place-and-behind text n h)
 
 pub first-at-end : (text : List ℕ) (n : ℕ) → length text ≤ n → first (drop n text) ≡ None
 first-at-end text n h = ap first (drop-of-length-le text h)
+
+pub clear-by-sight : {r : Option Sign} (s : List ℕ) (x : Sign) → r ≡ first s → (r ≡ Some x → ⊥) → Clear x s
+clear-by-sight s x sees h e = h (sees ∙ e)
 
 pub none-only-at-end : (s : List ℕ) → first s ≡ None → s ≡ []
 none-only-at-end [] e = refl

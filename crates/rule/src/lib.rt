@@ -3,13 +3,13 @@
 pub mod claims;
 pub mod fault;
 pub mod opposite;
-// mod read;
+mod read;
 mod reader;
 mod sign;
 pub mod tree;
 
 pub use fault::RuleFault;
-// pub use read::LONGEST;
-// pub use read::read_rule;
+pub use read::LONGEST;
+pub use read::read_rule;
 pub use tree::PathPart;
 pub use tree::Rule;

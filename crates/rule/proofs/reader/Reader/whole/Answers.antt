@@ -1,0 +1,10 @@
+use mathlib.Core.Path.{_≡_, subst}
+use Rattle.rule.specs.Ahead.{bytes, ahead}
+use Rattle.std.proofs.shelf.Results.{err-from-errBy}
+use Rattle.rule.proofs.Halting.{behind-rule}
+use Rattle.rule.proofs.reader.Reader.whole.Needs as need
+
+pub returns-in-Break-end : need.returns-in-Break-end
+returns-in-Break-end c =
+    let p = err-from-errBy (c .from-residual-in-Break-end .result) (c .from-residual-in-Break-end .ensures .1) in
+    record { reads = rw (p .1, p .2) (behind-rule _ (c .rule .ensures .same) (c .in-Continue-rule .ensures tt .reads .0) (c .in-Break-end .ensures tt)) }
