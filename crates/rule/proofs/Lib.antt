@@ -7,6 +7,3 @@ pub mod Completions
 pub mod Reaches
 pub mod Formulas
 pub mod Earned
-pub mod Places
-pub mod Halting
-pub mod Answered

@@ -1,6 +1,6 @@
 use native.Mathlib.Omega.{arith}
-use Rattle.rule.proofs.Answered.{answer-is-exact, exact-is-decisive}
-use Rattle.rule.proofs.read.read_rule.Needs as need
+use Rattle.rule_reader.proofs.Answered.{answer-is-exact, exact-is-decisive}
+use Rattle.rule_reader.proofs.read_rule.Needs as need
 
 pub returns : need.returns
 returns c =

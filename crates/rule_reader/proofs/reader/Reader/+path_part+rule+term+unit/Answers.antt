@@ -1,15 +1,15 @@
 use borrow.Author.Needs.{needs}
 use mathlib.Core.Path.{refl, sym, _∙_, ap}
 use native.Mathlib.Omega.{arith}
-use Rattle.rule.specs.Ahead.{ahead}
+use Rattle.rule_reader.specs.Ahead.{ahead}
 use Rattle.rule.specs.Grammar.{by-letter, by-constant, by-not, by-group, by-path, by-one, by-two, by-unit, by-and, by-term, by-or}
 use Rattle.rule.specs.declared.sign.Sign.the-variants.{And, Or}
 use Rattle.std.specs.declared.option.Option.the-variants.{Some}
 use Rattle.std.proofs.shelf.Results.{err-from-errBy}
-use Rattle.rule.proofs.Halting.{behind-not, behind-quantifier, behind-unary, in-group, in-pair, behind-group, behind-left, behind-and, behind-or, behind-binary, behind-right}
-use Rattle.rule.proofs.Places.{clear-by-sight}
-use Rattle.rule.proofs.reader.Reader.+path_part+rule+term+unit.Needs as need
-use Rattle.rule.proofs.reader.Reader.+path_part+rule+term+unit.Needs.{rule-in-rest, rule-in-rest·2, term-in-rest, term-in-rest·2}
+use Rattle.rule_reader.proofs.Halting.{behind-not, behind-quantifier, behind-unary, in-group, in-pair, behind-group, behind-left, behind-and, behind-or, behind-binary, behind-right}
+use Rattle.rule_reader.proofs.Places.{clear-by-sight}
+use Rattle.rule_reader.proofs.reader.Reader.+path_part+rule+term+unit.Needs as need
+use Rattle.rule_reader.proofs.reader.Reader.+path_part+rule+term+unit.Needs.{rule-in-rest, rule-in-rest·2, term-in-rest, term-in-rest·2}
 
 -- ---- units
 

@@ -2,16 +2,16 @@
 ghost use Prim.Native.Nat.{_≤_, _<_, _+_};
 ghost use mathlib.Core.Path.{_≡_};
 ghost use lib.ListN.{length, drop};
-ghost use Rattle.rule.specs.Ahead.{bytes, ahead};
+ghost use Rattle.rule_reader.specs.Ahead.{bytes, ahead};
 ghost use Rattle.rule.specs.Grammar.{Spaces, Reads};
 ghost use Rattle.rule.specs.Walk.{first, Clear, Faulted};
 ghost use Rattle.rule.specs.declared.sign.Sign.the-variants.{Space};
 ghost use Rattle.std.specs.declared.option.Option.the-variants.{Some};
 ghost use Rattle.std.specs.Options.{Cases as BySome};
-use crate::fault::RuleFault;
 use crate::reader::Reader;
-use crate::sign::Sign;
-use crate::sign::sign_of;
+use rule::fault::RuleFault;
+use rule::sign::Sign;
+use rule::sign::sign_of;
 
 impl<'a> Reader<'a> {
     // A reader at the first sign of `text`.

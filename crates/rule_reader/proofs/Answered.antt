@@ -4,21 +4,21 @@ use mathlib.Core.List.{List, []}
 use mathlib.Core.Logic.{_⊎_, inl, inr}
 use mathlib.Core.Path.{_≡_, refl}
 use native.Mathlib.Omega.{arith}
 use Rattle.rule.specs.Faults.{Sized, Earns}
 use Rattle.rule.specs.Grammar.{Spaces, Means, Lawful}
 use Rattle.rule.specs.Tree.{formula}
 use Rattle.rule.specs.Walk.{need, Halts}
 use Rattle.rule.specs.declared.fault.RuleFault.{RuleFault}
 use Rattle.rule.specs.declared.fault.RuleFault.the-variants.{Length, NoSign, Misplaced, Unfinished, Memory}
 use Rattle.rule.specs.declared.tree.Rule.{Rule}
 use Rattle.std.specs.Results.{Cases as ByOk}
 use Rattle.std.specs.declared.result.Result.{Result}
 use Rattle.std.specs.declared.result.Result.the-variants.{Ok, Err}
 use Rattle.rule.proofs.Earned.{earned-is-unlawful}
-use Rattle.rule.proofs.Halting.{halts-from}
+use Rattle.rule_reader.proofs.Halting.{halts-from}
 use Rattle.rule.proofs.Reaches.{stop-is-reach, stop-is-unlawful}
 use Rattle.rule.proofs.Spacing.{rule-behind-spaces}
 use Rattle.rule.proofs.Walks.{walk-spaces}
 
 halt-is-earned : (text : List ℕ) (e : RuleFault) → Sized text → Halts (λ _. need []) text text e → (e ≡ Memory) ⊎ Earns text e
 halt-is-earned text Length s h = absurd h

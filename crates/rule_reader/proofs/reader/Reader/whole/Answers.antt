@@ -1,8 +1,8 @@
 use mathlib.Core.Path.{_≡_, subst}
-use Rattle.rule.specs.Ahead.{bytes, ahead}
+use Rattle.rule_reader.specs.Ahead.{bytes, ahead}
 use Rattle.std.proofs.shelf.Results.{err-from-errBy}
-use Rattle.rule.proofs.Halting.{behind-rule}
-use Rattle.rule.proofs.reader.Reader.whole.Needs as need
+use Rattle.rule_reader.proofs.Halting.{behind-rule}
+use Rattle.rule_reader.proofs.reader.Reader.whole.Needs as need
 
 pub returns-in-Break-end : need.returns-in-Break-end
 returns-in-Break-end c =

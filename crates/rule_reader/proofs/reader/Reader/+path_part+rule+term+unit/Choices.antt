@@ -2,12 +2,12 @@ use Prim.Native.Nat.{ℕ, _-_, _+_, _*_, _≤_}
 use mathlib.Core.List.{List}
 use mathlib.Core.Path.{_≡_}
 use lib.ListN.{length}
-use Rattle.rule.specs.Ahead.{bytes, ahead}
+use Rattle.rule_reader.specs.Ahead.{bytes, ahead}
 use Rattle.rule.specs.Grammar.{IsTerm, IsRule}
 use Rattle.rule.specs.Tree.{formula}
 use Rattle.rule.specs.Walk.{Clear}
 use Rattle.rule.specs.declared.sign.Sign.the-variants.{And}
-use Rattle.rule.proofs.reader.Reader.+path_part+rule+term+unit.Given as given
+use Rattle.rule_reader.proofs.reader.Reader.+path_part+rule+term+unit.Given as given
 
 abbrev pub μ-path-part : given.MeasureT-path-part
 μ-path-part l = 3 * (length (bytes (l .self .now)) - l .self .now .at)

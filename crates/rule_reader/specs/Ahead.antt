@@ -3,7 +3,7 @@ use Prim.Native.Nat.{ℕ}
 use mathlib.Core.List.{List}
 use lib.ListN.{drop}
 use denote.Ref.{now}
-use Rattle.rule.specs.declared.reader.Reader.{Reader}
+use Rattle.rule_reader.specs.declared.reader.Reader.{Reader}
 
 -- the whole text that it reads
 abbrev pub bytes : Reader → List ℕ

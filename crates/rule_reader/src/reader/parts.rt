@@ -3,20 +3,20 @@
 ghost use Prim.Native.Nat.{_≤_, _<_};
 ghost use mathlib.Core.List.{List, [], _∷_};
 ghost use mathlib.Core.Path.{_≡_};
-ghost use Rattle.rule.specs.Ahead.{bytes, ahead};
+ghost use Rattle.rule_reader.specs.Ahead.{bytes, ahead};
 ghost use Rattle.rule.specs.Grammar.{Reads, IsUnit, IsPathPart, IsTerm, IsRule, Means};
 ghost use Rattle.rule.specs.Tree.{formula, part-formula};
 ghost use Rattle.rule.specs.Walk.{closing, joining, need, part, after, Clear, Ended, Halts};
 ghost use Rattle.rule.specs.declared.sign.Sign.the-variants.{And, Close, Binary as BinarySign};
 ghost use Rattle.std.specs.Results.{Cases as ByOk};
-use crate::fault::RuleFault;
-use crate::fault::RuleFaultFromRefused;
 use crate::reader::Reader;
-use crate::sign::Sign;
-use crate::tree::PathPart;
-use crate::tree::Rule;
 use ctl::Binary;
 use ctl::Connective;
+use rule::fault::RuleFault;
+use rule::fault::RuleFaultFromRefused;
+use rule::sign::Sign;
+use rule::tree::PathPart;
+use rule::tree::Rule;
 use std::alloc::Global;
 
 impl<'a> Reader<'a> {

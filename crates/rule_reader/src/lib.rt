@@ -1,14 +1,18 @@
-// Rule text to rule.
+// Reads rule text: a text is taken only if the grammar has it, and a refusal points at the byte where no
+// rule can go on.
 ghost use mathlib.Core.Logic.{_⊎_};
 ghost use mathlib.Core.Path.{_≡_};
 ghost use Rattle.rule.specs.Faults.{Sized, Earns};
 ghost use Rattle.rule.specs.Grammar.{Means, Lawful};
 ghost use Rattle.rule.specs.Tree.{formula};
 ghost use Rattle.rule.specs.declared.fault.RuleFault.the-variants.{Memory};
 ghost use Rattle.std.specs.Results.{Cases as ByOk};
-use crate::fault::RuleFault;
-use crate::reader::Reader;
-use crate::tree::Rule;
+
+mod reader;
+
+use reader::Reader;
+use rule::fault::RuleFault;
+use rule::tree::Rule;
 use std::alloc::Global;
 
 // The most bytes that a rule text may have.

@@ -1,10 +1,10 @@
 use native.Mathlib.Omega.{arith}
 use mathlib.Core.Path.{sym, _∙_}
 use Prim.Native.Nat.{ℕ}
 use Rattle.rule.specs.Grammar.{none}
 use Rattle.rule.proofs.Cases.{zero-is-not-one}
-use Rattle.rule.proofs.Places.{spaces-go-on, first-at-place, first-at-end}
-use Rattle.rule.proofs.reader.step.past_spaces.Needs as need
+use Rattle.rule_reader.proofs.Places.{spaces-go-on, first-at-place, first-at-end}
+use Rattle.rule_reader.proofs.reader.step.past_spaces.Needs as need
 
 pub loop-at-holds : need.loop-at-holds
 loop-at-holds c = (omega arith, omega arith, none)
