@@ -1,6 +1,6 @@
 // The tree that a rule is kept as: negation normal form, in which only a letter is ever negated.
 ghost use mathlib.Core.Path.{_≡_};
-ghost use Rattle.ctl.specs.Formula.{negation, negation-part};
+ghost use Rattle.ctl.specs.Formula.{join, path, negation, negation-part};
 ghost use Rattle.rule.specs.Tree.{formula, part-formula, One-to-one};
 ghost use Rattle.std.specs.Vec.{made};
 use crate::opposite::opposite_binary;
@@ -32,6 +32,27 @@ pub enum PathPart {
 }
 
 impl Rule {
+    // Two rules joined.
+    pub fn joined(heap: Global, op: Connective, left: Rule, right: Rule) -> Result<Rule, AllocError>
+        ensures { λ r. ⌜ made r (λ f. formula f ≡ join op (formula left) (formula right)) ⌝ }
+    {
+        let left = Box::new(heap, left)?;
+        let right = Box::new(heap, right)?;
+        Ok(Rule::Join(op, left, right))
+    }
+
+    // A path part under A or E.
+    pub fn quantified(
+        heap: Global,
+        quantifier: Quantifier,
+        asked: PathPart,
+    ) -> Result<Rule, AllocError>
+        ensures { λ r. ⌜ made r (λ f. formula f ≡ path quantifier (part-formula asked)) ⌝ }
+    {
+        let asked = Box::new(heap, asked)?;
+        Ok(Rule::Path(quantifier, asked))
+    }
+
     // Makes the rule its negation, in place and without memory.
     pub fn negate(&mut self)
         ensures { λ _. ⌜ formula (now (self .exit)) ≡ negation (formula (now (self .entry))) ⌝ }
@@ -45,9 +66,9 @@ impl Rule {
                 right.negate();
                 Rule::Join(opposite_connective(op), left, right)
             }
-            Rule::Path(quantifier, mut part) => {
-                part.negate();
-                Rule::Path(opposite_quantifier(quantifier), part)
+            Rule::Path(quantifier, mut asked) => {
+                asked.negate();
+                Rule::Path(opposite_quantifier(quantifier), asked)
             }
         };
     }
@@ -60,13 +81,13 @@ impl Rule {
             Rule::Constant(value) => Ok(Rule::Constant(!*value)),
             Rule::Literal(carried, mark) => Ok(Rule::Literal(!*carried, *mark)),
             Rule::Join(op, left, right) => {
-                let left = Box::new(heap, left.negated(heap)?)?;
-                let right = Box::new(heap, right.negated(heap)?)?;
-                Ok(Rule::Join(opposite_connective(*op), left, right))
+                let left = left.negated(heap)?;
+                let right = right.negated(heap)?;
+                Rule::joined(heap, opposite_connective(*op), left, right)
             }
-            Rule::Path(quantifier, part) => {
-                let part = Box::new(heap, part.negated(heap)?)?;
-                Ok(Rule::Path(opposite_quantifier(*quantifier), part))
+            Rule::Path(quantifier, asked) => {
+                let asked = asked.negated(heap)?;
+                Rule::quantified(heap, opposite_quantifier(*quantifier), asked)
             }
         }
     }
@@ -74,7 +95,7 @@ impl Rule {
 
 impl PathPart {
     // Makes the path part its negation, in place.
-    pub fn negate(&mut self)
+    fn negate(&mut self)
         ensures { λ _. ⌜ part-formula (now (self .exit)) ≡ negation-part (part-formula (now (self .entry))) ⌝ }
     {
         match self {
@@ -91,7 +112,7 @@ impl PathPart {
     }
 
     // The negation as a path part of its own.
-    pub fn negated(&self, heap: Global) -> Result<PathPart, AllocError>
+    fn negated(&self, heap: Global) -> Result<PathPart, AllocError>
         ensures { λ r. ⌜ made r (λ n. part-formula n ≡ negation-part (part-formula (now (self .entry)))) ⌝ }
     {
         match self {

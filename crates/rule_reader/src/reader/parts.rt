@@ -13,7 +13,7 @@ use crate::reader::Reader;
 use ctl::Binary;
 use ctl::Connective;
 use rule::fault::RuleFault;
-use rule::fault::RuleFaultFromRefused;
+use rule::fault::RuleFaultFromAllocError;
 use rule::sign::Sign;
 use rule::tree::PathPart;
 use rule::tree::Rule;
@@ -39,11 +39,7 @@ impl<'a> Reader<'a> {
         while let Some(Sign::Or) = self.next() {
             self.pass();
             let right = self.term(heap)?;
-            left = Rule::Join(
-                Connective::Or,
-                Box::new(heap, left)?,
-                Box::new(heap, right)?,
-            );
+            left = Rule::joined(heap, Connective::Or, left, right)?;
         }
         Ok(left)
     }
@@ -58,11 +54,7 @@ impl<'a> Reader<'a> {
         while let Some(Sign::And) = self.next() {
             self.pass();
             let right = self.unit(heap)?;
-            left = Rule::Join(
-                Connective::And,
-                Box::new(heap, left)?,
-                Box::new(heap, right)?,
-            );
+            left = Rule::joined(heap, Connective::And, left, right)?;
         }
         Ok(left)
     }
@@ -100,7 +92,7 @@ impl<'a> Reader<'a> {
             Sign::Quantifier(quantifier) => {
                 self.pass();
                 let asked = self.path_part(heap)?;
-                Ok(Rule::Path(quantifier, Box::new(heap, asked)?))
+                Ok(Rule::quantified(heap, quantifier, asked)?)
             }
             _ => Err(self.fault()),
         }

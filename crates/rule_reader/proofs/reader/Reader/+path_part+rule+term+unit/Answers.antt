@@ -56,11 +56,11 @@ unit-returns-in-Break-close t c =
     let p = err-from-errBy (c .from-residual-in-Break-close .result) (c .from-residual-in-Break-close .ensures .1) in
     record { same = c .close .ensures .same ∙ c .rule .ensures .same ∙ c .pass-in-Open .ensures .same; onward = omega arith; reads = rw (p .1, p .2) (behind-group _ (c .rule .ensures .same ∙ c .pass-in-Open .ensures .same) (c .pass-in-Open .ensures .reads _ (sym (c .in-Some .ensures tt .sees) ∙ ap Some (c .in-Open .is))) (c .in-Continue-group .ensures tt .reads .0) (c .in-Break-close .ensures tt .reads)) }
 
-pub unit-returns-in-Continue-new : need.unit-returns-in-Continue-new
-unit-returns-in-Continue-new t c = record {
+pub unit-returns-in-Continue-quantified : need.unit-returns-in-Continue-quantified
+unit-returns-in-Continue-quantified t c = record {
   same = c .path-part .ensures .same ∙ c .pass-in-Quantifier .ensures .same;
   onward = omega arith;
-  reads = rw (c .in-Continue-new .ensures tt .made) (by-path (c .pass-in-Quantifier .ensures .reads _ (sym (c .in-Some .ensures tt .sees) ∙ ap Some (c .in-Quantifier .is))) (c .in-Continue-asked .ensures tt .reads));
+  reads = rw (c .in-Continue-quantified .ensures tt) (by-path (c .pass-in-Quantifier .ensures .reads _ (sym (c .in-Some .ensures tt .sees) ∙ ap Some (c .in-Quantifier .is))) (c .in-Continue-asked .ensures tt .reads));
 }
 
 pub unit-returns-in-Break-asked : need.unit-returns-in-Break-asked
@@ -115,7 +115,7 @@ pub term-loop-self-again : need.term-loop-self-again
 term-loop-self-again t c = (
   c .unit-in-Some-And .ensures .same ∙ c .pass .ensures .same ∙ c .loop-self .inv .0,
   omega arith,
-  λ s d. rw (c .in-Continue-new .ensures tt .made, c .in-Continue-new-2 .ensures tt .made) (by-and (c .loop-self .inv .2 s d) (c .pass .ensures .reads And (sym (c .in-Some-And .ensures tt .sees) ∙ ap Some (cc))) (c .in-Continue-right .ensures tt .reads)),
+  λ s d. rw (c .in-Continue-left-2 .ensures tt) (by-and (c .loop-self .inv .2 s d) (c .pass .ensures .reads And (sym (c .in-Some-And .ensures tt .sees) ∙ ap Some (cc))) (c .in-Continue-right .ensures tt .reads)),
 )
 
 pub term-returns-in-Break-right : need.term-returns-in-Break-right
@@ -136,7 +136,7 @@ pub rule-loop-self-again : need.rule-loop-self-again
 rule-loop-self-again t c = (
   c .term-in-Some-Or .ensures .same ∙ c .pass .ensures .same ∙ c .loop-self .inv .0,
   omega arith,
-  λ s d. rw (c .in-Continue-new .ensures tt .made, c .in-Continue-new-2 .ensures tt .made) (by-or (c .loop-self .inv .2 s d) (c .pass .ensures .reads Or (sym (c .in-Some-Or .ensures tt .sees) ∙ ap Some (cc))) (c .in-Continue-right .ensures tt .reads .0)),
+  λ s d. rw (c .in-Continue-left-2 .ensures tt) (by-or (c .loop-self .inv .2 s d) (c .pass .ensures .reads Or (sym (c .in-Some-Or .ensures tt .sees) ∙ ap Some (cc))) (c .in-Continue-right .ensures tt .reads .0)),
   λ _. c .in-Continue-right .ensures tt .reads .1,
 )
 
