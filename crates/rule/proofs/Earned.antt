@@ -9,7 +9,7 @@ use lib.ListN.{length, drop, getD}
 use Rattle.rule.specs.Faults.{Sized, Earns}
 use Rattle.rule.specs.Grammar.{Lawful, Reach}
 use Rattle.rule.specs.Signs.{sign-of}
-use Rattle.rule.specs.Walk.{State, need, part, after, Move, stuck, to, step, Walk, done, stopped, moved, walk, Faulted}
+use Rattle.rule.proofs.Walk.{State, need, part, after, Move, stuck, to, step, Walk, done, stopped, moved, walk}
 use Rattle.rule.specs.declared.fault.RuleFault.{RuleFault}
 use Rattle.rule.specs.declared.fault.RuleFault.the-variants.{Length, NoSign, Misplaced, Unfinished, Memory}
 use Rattle.rule.specs.declared.sign.Sign.{Sign}

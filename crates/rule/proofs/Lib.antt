@@ -1,7 +1,8 @@
 pub mod Cases
 pub mod Sizes
 pub mod Trees
-pub mod Walks
+pub mod Walk
+pub mod Takes
 pub mod Spacing
 pub mod Completions
 pub mod Reaches

@@ -8,9 +8,9 @@ use lib.ListN.{length, drop, take, length-drop}
 use lib.Seq.{take-length}
 use Rattle.rule.specs.Grammar.{Lawful, Begins, Reach}
 use Rattle.rule.specs.Signs.{sign-of}
-use Rattle.rule.specs.Walk.{State, need, part, after, Move, stuck, to, step, Walk, done, stopped, moved, walk}
+use Rattle.rule.proofs.Walk.{State, need, part, after, Move, stuck, to, step, Walk, done, stopped, moved, walk}
 use Rattle.rule.proofs.Completions.{Live, LiveBehind, live-begins, not-done}
-use Rattle.rule.proofs.Walks.{walk-whole}
+use Rattle.rule.proofs.Takes.{walk-whole}
 
 abbrev rest-of : Walk → List ℕ
 rest-of done = []

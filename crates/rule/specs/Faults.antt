@@ -31,6 +31,10 @@ place Memory = 0
 abbrev pub Sized : List ℕ → Type 0
 Sized text = (1 ≤ length text) × (length text ≤ 255)
 
+-- the text is to be taken: it has 1 to 255 bytes and is a rule
+abbrev pub Taken : List ℕ → Type 0
+Taken text = Sized text × Lawful text
+
 -- the first question that the text fails: has it 1 to 255 bytes; if its reach is short of its end, is the byte there a sign;
 -- is the reach its end; is it a rule. No text earns want of memory.
 abbrev pub Earns : List ℕ → RuleFault → Type 0

@@ -18,6 +18,13 @@ pub struct Nest {
     pub refusal: Option<(u8, usize)>,
 }
 
+// A text, and what stands at the root of its tree and of its negation's.
+pub struct Root {
+    pub text: &'static str,
+    pub kept: &'static str,
+    pub negated: &'static str,
+}
+
 // The signs that cannot stand behind a beginning.
 pub struct Place {
     pub beginning: &'static str,
@@ -498,6 +505,69 @@ pub static PLACES: [Place; 16] = [
     Place {
         beginning: "E(aRb",
         misplaced: "az01!(AEXFGUR",
+    },
+];
+
+pub static ROOTS: [Root; 12] = [
+    Root {
+        text: "0",
+        kept: "0",
+        negated: "1",
+    },
+    Root {
+        text: "!0",
+        kept: "1",
+        negated: "0",
+    },
+    Root {
+        text: "a",
+        kept: "letter",
+        negated: "no letter",
+    },
+    Root {
+        text: "!a",
+        kept: "no letter",
+        negated: "letter",
+    },
+    Root {
+        text: "!!a",
+        kept: "letter",
+        negated: "no letter",
+    },
+    Root {
+        text: "a&b",
+        kept: "&",
+        negated: "|",
+    },
+    Root {
+        text: "!(a&b)",
+        kept: "|",
+        negated: "&",
+    },
+    Root {
+        text: "a|b&c",
+        kept: "|",
+        negated: "&",
+    },
+    Root {
+        text: "AXa",
+        kept: "A",
+        negated: "E",
+    },
+    Root {
+        text: "!EFa",
+        kept: "A",
+        negated: "E",
+    },
+    Root {
+        text: "!A(aUb)",
+        kept: "E",
+        negated: "A",
+    },
+    Root {
+        text: "!(!EGa)",
+        kept: "E",
+        negated: "A",
     },
 ];
 

@@ -2,8 +2,11 @@
 use crate::CASES;
 use crate::NESTS;
 use crate::PLACES;
+use crate::ROOTS;
 use crate::alone;
 use crate::text_of;
+use ctl::Connective;
+use ctl::Quantifier;
 use rule::Rule;
 use rule_reader::read_rule;
 use std::alloc::Global;
@@ -52,6 +55,34 @@ fn each_sign_is_refused_where_it_is_misplaced(rt: LibcRuntime) -> Result<(), Fai
 fn every_byte_alone_is_answered(rt: LibcRuntime) -> Result<(), Fail> {
     for byte in 0..=255 {
         check_eq(refusal(rt.alloc(), &[byte]), alone(byte))?;
+    }
+    Ok(())
+}
+
+// What stands at the root of a tree.
+fn root(rule: &Rule) -> &'static str {
+    match rule {
+        Rule::Constant(true) => "1",
+        Rule::Constant(false) => "0",
+        Rule::Literal(true, _) => "letter",
+        Rule::Literal(false, _) => "no letter",
+        Rule::Join(Connective::And, _, _) => "&",
+        Rule::Join(Connective::Or, _, _) => "|",
+        Rule::Path(Quantifier::All, _) => "A",
+        Rule::Path(Quantifier::Exists, _) => "E",
+    }
+}
+
+#[test]
+fn a_rule_its_negated_copy_and_itself_negated_have_the_roots_of_the_table(
+    rt: LibcRuntime,
+) -> Result<(), Fail> {
+    for case in &ROOTS {
+        let mut rule = read_rule(rt.alloc(), case.text.as_bytes())?;
+        check_eq(root(&rule), case.kept).note(case.text)?;
+        check_eq(root(&rule.negated(rt.alloc())?), case.negated).note(case.text)?;
+        rule.negate();
+        check_eq(root(&rule), case.negated).note(case.text)?;
     }
     Ok(())
 }

@@ -4,10 +4,11 @@ use mathlib.Core.List.{List, []}
 use mathlib.Core.Logic.{_⊎_, inl, inr}
 use mathlib.Core.Path.{_≡_, refl}
 use native.Mathlib.Omega.{arith}
-use Rattle.rule.specs.Faults.{Sized, Earns}
-use Rattle.rule.specs.Grammar.{Spaces, Means, Lawful}
+use Rattle.rule.specs.Faults.{Sized, Taken, Earns}
+use Rattle.rule.specs.Grammar.{Spaces, Means}
 use Rattle.rule.specs.Tree.{formula}
-use Rattle.rule.specs.Walk.{need, Halts}
+use Rattle.rule.proofs.Walk.{need}
+use Rattle.rule_reader.specs.Halts.{Halts}
 use Rattle.rule.specs.declared.fault.RuleFault.{RuleFault}
 use Rattle.rule.specs.declared.fault.RuleFault.the-variants.{Length, NoSign, Misplaced, Unfinished, Memory}
 use Rattle.rule.specs.declared.tree.Rule.{Rule}
@@ -18,7 +19,7 @@ use Rattle.rule.proofs.Earned.{earned-is-unlawful}
 use Rattle.rule_reader.proofs.Halting.{halts-from}
 use Rattle.rule.proofs.Reaches.{stop-is-reach, stop-is-unlawful}
 use Rattle.rule.proofs.Spacing.{rule-behind-spaces}
-use Rattle.rule.proofs.Walks.{walk-spaces}
+use Rattle.rule.proofs.Takes.{walk-spaces}
 
 halt-is-earned : (text : List ℕ) (e : RuleFault) → Sized text → Halts (λ _. need []) text text e → (e ≡ Memory) ⊎ Earns text e
 halt-is-earned text Length s h = absurd h
@@ -37,6 +38,6 @@ answer-is-exact (Err e) {text} {U} {s} sized same g h =
 
 pub exact-is-decisive : (r : Result Rule RuleFault) (text : List ℕ) →
     ByOk r (λ f. Sized text × Means text (formula f)) (λ e. (e ≡ Memory) ⊎ Earns text e) →
-    ByOk r (λ _. Sized text × Lawful text) (λ e. (e ≡ Memory) ⊎ (Sized text × Lawful text → ⊥))
+    ByOk r (λ _. Taken text) (λ e. (e ≡ Memory) ⊎ (Taken text → ⊥))
 exact-is-decisive (Ok f) text h = (h .0, (formula f, h .1))
 exact-is-decisive (Err e) text h = elim h [ inl m ↦ inl m | inr k ↦ inr (λ z. earned-is-unlawful text e k (z .0) (z .1)) ]

@@ -7,11 +7,12 @@ use Rattle.ctl.specs.declared.Binary.{Binary as BinaryOp}
 use Rattle.ctl.specs.declared.Quantifier.{Quantifier as QuantifierOp}
 use Rattle.ctl.specs.declared.Unary.{Unary as UnaryOp}
 use Rattle.rule.specs.Grammar.{Reads, IsTerm, IsRule}
-use Rattle.rule.specs.Walk.{Await, closing, joining, State, need, part, after, walk, Faulted, Stops, Halts}
+use Rattle.rule.proofs.Walk.{Await, closing, joining, State, need, part, after, walk}
+use Rattle.rule_reader.specs.Halts.{Faulted, Stops, Halts}
 use Rattle.rule.specs.declared.fault.RuleFault.{RuleFault}
 use Rattle.rule.specs.declared.fault.RuleFault.the-variants.{Length, NoSign, Misplaced, Unfinished, Memory}
 use Rattle.rule.specs.declared.sign.Sign.the-variants.{Not, And, Or, Open, Quantifier, Unary, Binary}
-use Rattle.rule.proofs.Walks.{walk-reads, walk-term, walk-rule}
+use Rattle.rule.proofs.Takes.{walk-reads, walk-term, walk-rule}
 
 faulted-map : (P Q : ℕ → Type 0) (text : List ℕ) (e : RuleFault) → ((p : ℕ) → P p → Q p) → Faulted P text e → Faulted Q text e
 faulted-map P Q text Length m h = h

@@ -7,7 +7,7 @@ use lib.ListN.{length, drop, getD, drop-of-length-le}
 use lib.Seq.{drop-cons}
 use Rattle.rule.specs.Grammar.{Spaces, none, more, Reads, here}
 use Rattle.rule.specs.Signs.{sign-of}
-use Rattle.rule.specs.Walk.{first, Clear}
+use Rattle.rule_reader.specs.Halts.{first, Clear}
 use Rattle.rule.specs.declared.sign.Sign.{Sign}
 use Rattle.rule.specs.declared.sign.Sign.the-variants.{Space}
 use Rattle.std.specs.declared.option.Option.{Option}

@@ -2,8 +2,8 @@
 // rule can go on.
 ghost use mathlib.Core.Logic.{_⊎_};
 ghost use mathlib.Core.Path.{_≡_};
-ghost use Rattle.rule.specs.Faults.{Sized, Earns};
-ghost use Rattle.rule.specs.Grammar.{Means, Lawful};
+ghost use Rattle.rule.specs.Faults.{Sized, Taken, Earns};
+ghost use Rattle.rule.specs.Grammar.{Means};
 ghost use Rattle.rule.specs.Tree.{formula};
 ghost use Rattle.rule.specs.declared.fault.RuleFault.the-variants.{Memory};
 ghost use Rattle.std.specs.Results.{Cases as ByOk};
@@ -23,7 +23,7 @@ pub const LONGEST: usize = 255;
 // Memory may run out before a fault further on in the text is met.
 pub fn read_rule(heap: Global, text: &[u8]) -> Result<Rule, RuleFault>
     ensures reads { λ r. ⌜ ByOk r (λ f. Sized (now (text .entry)) × Means (now (text .entry)) (formula f)) (λ e. (e ≡ Memory) ⊎ Earns (now (text .entry)) e) ⌝ }
-    ensures exactly { λ r. ⌜ ByOk r (λ _. Sized (now (text .entry)) × Lawful (now (text .entry))) (λ e. (e ≡ Memory) ⊎ (Sized (now (text .entry)) × Lawful (now (text .entry)) → ⊥)) ⌝ }
+    ensures exactly { λ r. ⌜ ByOk r (λ _. Taken (now (text .entry))) (λ e. (e ≡ Memory) ⊎ (Taken (now (text .entry)) → ⊥)) ⌝ }
 {
     if text.len() == 0 || text.len() > LONGEST {
         return Err(RuleFault::Length);

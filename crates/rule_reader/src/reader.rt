@@ -3,14 +3,14 @@
 ghost use Prim.Native.Nat.{_≤_};
 ghost use lib.ListN.{length, drop};
 ghost use denote.Ref.{now};
-ghost use Rattle.rule.specs.Walk.{Clear};
+ghost use Rattle.rule_reader.specs.Halts.{Clear};
 ghost use Rattle.rule.specs.declared.sign.Sign.the-variants.{Space};
 
 mod parts;
 mod step;
 
 #[derive(Drop)]
-pub struct Reader<'a> {
+pub(crate) struct Reader<'a> {
     text: &'a [u8],
     at: usize,
     ghost within: { at ≤ length (now text) },

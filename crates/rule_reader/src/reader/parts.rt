@@ -6,7 +6,8 @@ ghost use mathlib.Core.Path.{_≡_};
 ghost use Rattle.rule_reader.specs.Ahead.{bytes, ahead};
 ghost use Rattle.rule.specs.Grammar.{Reads, IsUnit, IsPathPart, IsTerm, IsRule, Means};
 ghost use Rattle.rule.specs.Tree.{formula, part-formula};
-ghost use Rattle.rule.specs.Walk.{closing, joining, need, part, after, Clear, Ended, Halts};
+ghost use Rattle.rule.proofs.Walk.{closing, joining, need, part, after};
+ghost use Rattle.rule_reader.specs.Halts.{Clear, Ended, Halts};
 ghost use Rattle.rule.specs.declared.sign.Sign.the-variants.{And, Close, Binary as BinarySign};
 ghost use Rattle.std.specs.Results.{Cases as ByOk};
 use crate::reader::Reader;
@@ -21,7 +22,7 @@ use std::alloc::Global;
 
 impl<'a> Reader<'a> {
     // The rule that all of the text ahead is.
-    pub fn whole(&mut self, heap: Global) -> Result<Rule, RuleFault>
+    pub(crate) fn whole(&mut self, heap: Global) -> Result<Rule, RuleFault>
         ensures reads { λ r. ⌜ ByOk r (λ f. Means (ahead (now (self .entry))) (formula f)) (λ e. Halts (λ _. need []) (ahead (now (self .entry))) (bytes (now (self .entry))) e) ⌝ }
     {
         let rule = self.rule(heap)?;

@@ -4,7 +4,7 @@ ghost use mathlib.Core.Path.{_≡_};
 ghost use lib.ListN.{length, drop};
 ghost use Rattle.rule_reader.specs.Ahead.{bytes, ahead};
 ghost use Rattle.rule.specs.Grammar.{Spaces, Reads};
-ghost use Rattle.rule.specs.Walk.{first, Clear, Faulted};
+ghost use Rattle.rule_reader.specs.Halts.{first, Clear, Faulted};
 ghost use Rattle.rule.specs.declared.sign.Sign.the-variants.{Space};
 ghost use Rattle.std.specs.declared.option.Option.the-variants.{Some};
 ghost use Rattle.std.specs.Options.{Cases as BySome};
@@ -15,7 +15,7 @@ use rule::sign::sign_of;
 
 impl<'a> Reader<'a> {
     // A reader at the first sign of `text`.
-    pub fn new(text: &'a [u8]) -> Self
+    pub(crate) fn new(text: &'a [u8]) -> Self
         ensures same { λ r. ⌜ bytes r ≡ now (text .entry) ⌝ }
         ensures spaces { λ r. ⌜ Spaces (now (text .entry)) (ahead r) ⌝ }
     {
@@ -26,7 +26,7 @@ impl<'a> Reader<'a> {
     }
 
     // The sign at the reader's place, or none at the end.
-    pub fn next(&self) -> Option<Sign>
+    pub(crate) fn next(&self) -> Option<Sign>
         ensures sees { λ r. ⌜ r ≡ first (ahead (now (self .entry))) ⌝ }
         ensures within { λ r. ⌜ BySome r (now (self .entry) .at ≡ length (bytes (now (self .entry)))) (λ _. now (self .entry) .at < length (bytes (now (self .entry)))) ⌝ }
     {
@@ -38,7 +38,7 @@ impl<'a> Reader<'a> {
     }
 
     // Goes on past the sign at the reader's place and the spaces behind it.
-    pub fn pass(&mut self)
+    pub(crate) fn pass(&mut self)
         requires { ⌜ now self .at < length (bytes (now self)) ⌝ }
         ensures same { λ _. ⌜ bytes (now (self .exit)) ≡ bytes (now (self .entry)) ⌝ }
         ensures onward { λ _. ⌜ now (self .entry) .at < now (self .exit) .at ⌝ }
@@ -48,7 +48,7 @@ impl<'a> Reader<'a> {
     }
 
     // The fault of a text that cannot go on at the reader's place.
-    pub fn fault(&self) -> RuleFault
+    pub(crate) fn fault(&self) -> RuleFault
         ensures { λ r. ⌜ Faulted (λ p. p ≡ now (self .entry) .at) (bytes (now (self .entry))) r ⌝ }
     {
         if self.at == self.text.len() {

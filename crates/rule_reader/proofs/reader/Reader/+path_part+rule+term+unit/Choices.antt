@@ -5,7 +5,7 @@ use lib.ListN.{length}
 use Rattle.rule_reader.specs.Ahead.{bytes, ahead}
 use Rattle.rule.specs.Grammar.{IsTerm, IsRule}
 use Rattle.rule.specs.Tree.{formula}
-use Rattle.rule.specs.Walk.{Clear}
+use Rattle.rule_reader.specs.Halts.{Clear}
 use Rattle.rule.specs.declared.sign.Sign.the-variants.{And}
 use Rattle.rule_reader.proofs.reader.Reader.+path_part+rule+term+unit.Given as given
 

@@ -1,16 +1,10 @@
--- A reading of signs from left to right that knows only which brackets are open. It is a device of the proofs: the readers' private
--- contracts say by it where a reading stops, and no public contract names it.
-use Prim.Native.Nat.{ℕ, _≤_, _<_}
-use mathlib.Core.Path.{_≡_}
+-- A walk over signs from left to right that knows only which brackets are open. It is a device of the proofs, by which the reach is
+-- found; no definition of specs/ and no public contract names it.
+use Prim.Native.Nat.{ℕ}
 use mathlib.Core.List.{List, [], _∷_}
-use lib.ListN.{length, drop, getD}
 use Rattle.rule.specs.Signs.{sign-of}
-use Rattle.rule.specs.declared.fault.RuleFault.{RuleFault}
-use Rattle.rule.specs.declared.fault.RuleFault.the-variants.{Length, NoSign, Misplaced, Unfinished, Memory}
 use Rattle.rule.specs.declared.sign.Sign.{Sign}
 use Rattle.rule.specs.declared.sign.Sign.the-variants.{Letter, Constant, Not, And, Or, Open, Close, Quantifier, Unary, Binary, Space, Other}
-use Rattle.std.specs.declared.option.Option.{Option}
-use Rattle.std.specs.declared.option.Option.the-variants.{Some, None}
 
 -- what an open bracket awaits behind its first rule: ), or U or R
 pub data Await : Type 0 where
@@ -82,6 +76,7 @@ step-after σ (Binary op) = join σ
 step-after σ Space = to (after σ)
 step-after σ Other = stuck
 
+-- a sign in any state
 abbrev pub step : State → Sign → Move
 step (need σ) x = step-need σ x
 step (part σ) x = step-part σ x
@@ -99,39 +94,12 @@ ended (part σ) = stopped []
 ended (after []) = done
 ended (after (a ∷ σ)) = stopped []
 
+-- what becomes of a walk at a move
 abbrev pub moved : Move → Walk → (State → Walk) → Walk
 moved stuck w k = w
 moved (to s) w k = k s
 
+-- the walk over a text from a state
 abbrev pub walk : State → List ℕ → Walk
 walk s [] = ended s
 walk s (b ∷ t) = moved (step s (sign-of b)) (stopped (b ∷ t)) (λ s′. walk s′ t)
-
--- the sign at the front of a text
-abbrev pub first : List ℕ → Option Sign
-first [] = None
-first (b ∷ t) = Some (sign-of b)
-
--- x does not stand at the front
-abbrev pub Clear : Sign → List ℕ → Type 0
-Clear x t = first t ≡ Some x → ⊥
-
--- no rule goes on at the front
-abbrev pub Ended : List ℕ → Type 0
-Ended t = Clear And t × Clear Or t
-
--- e is the fault of a reader that stops at a place of which P holds
-abbrev pub Faulted : (ℕ → Type 0) → List ℕ → RuleFault → Type 0
-Faulted P text Length = ⊥
-Faulted P text (NoSign p) = P p × (p < length text) × (sign-of (getD text p 0) ≡ Other)
-Faulted P text (Misplaced p) = P p × (p < length text) × (sign-of (getD text p 0) ≡ Other → ⊥)
-Faulted P text (Unfinished p) = P p × (p ≡ length text)
-Faulted P text Memory = Unit {0}
-
--- a reading of s from each of these states stops at p
-abbrev pub Stops : (List Await → State) → List ℕ → List ℕ → ℕ → Type 0
-Stops k s text p = (σ : List Await) → walk (k σ) s ≡ stopped (drop p text)
-
--- a reading of s from each of these states ends with the fault e
-abbrev pub Halts : (List Await → State) → List ℕ → List ℕ → RuleFault → Type 0
-Halts k s text e = Faulted (Stops k s text) text e
