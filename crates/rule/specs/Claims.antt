@@ -1,4 +1,4 @@
--- What is claimed of rule texts; each is the contract of a function of the same name.
+-- What is claimed of rule texts; each claim is the contract of a function in `claims`.
 use mathlib.Core.Path.{_≡_}
 use mathlib.Core.List.{List}
 use Prim.Native.Nat.{ℕ}

@@ -8,6 +8,7 @@ use crate::text_of;
 use ctl::Connective;
 use ctl::Quantifier;
 use rule::Rule;
+use rule::fault::RuleFaultDebug;
 use rule_reader::read_rule;
 use std::alloc::Global;
 use std::test::*;
