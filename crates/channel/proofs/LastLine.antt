@@ -9,14 +9,14 @@ use lib.Dec.{eqb, leb}
 use lib.ListN.{length, getD, take, drop}
 use Rattle.std.specs.Written.{decimal}
 use Rattle.std.proofs.str.Laws.{order}
-use Rattle.std.proofs.shelf.Tests.{or-cases, eqb-true, and-from, le-leb, lt-leb}
-use Rattle.std.proofs.shelf.Lists.{take-append-drop, drop-more, drop-all, drop-drop, append-assoc, length-append, length-take-le, getD-at, getD-append-left, getD-append-right, take-at, drop-at, length-drop, take-take}
+use Rattle.std.proofs.shelf.Tests.{or-cases, eqb-true, and-from, and-parts, le-leb, leb-true, lt-leb}
+use Rattle.std.proofs.shelf.Lists.{take-append-drop, drop-more, drop-all, drop-drop, append-assoc, length-append, length-take-le, getD-at, getD-append-left, getD-append-right, take-at, drop-at, length-drop, getD-drop, take-take}
 use Rattle.std.proofs.shelf.Parts.{between-is}
 use Rattle.std.proofs.shelf.Decimals.{digits-decimal, same-from-decimal}
 use Rattle.text.proofs.Digits.{Figures, own}
 use Rattle.channel.specs.Faults.{Bad-offset}
-use Rattle.channel.specs.Files.{line-front, sized, Last, Cut}
-use Rattle.channel.specs.Steps.{Line-begins}
+use Rattle.channel.specs.Files.{line-front, most-bytes, sized, Last, Cut}
+use Rattle.channel.specs.Steps.{Closed, Line-begins}
 
 no-first : (a b : Bool) → a ≡ false → (a && b) ≡ false
 no-first a b e = rw e
@@ -78,12 +78,12 @@ found file at n h ten sign figs =
     let two : drop (at + 1) file ≡ decimal n ++ 10 ∷ [] = sym (take-append-drop m (drop (at + 1) file)) ∙ ap (λ xs. xs ++ drop m (drop (at + 1) file)) figs ∙ ap (λ xs. decimal n ++ xs) (drop-drop m (at + 1) file ∙ ap (λ j. drop j file) k ∙ one) in
     sym (take-append-drop at file) ∙ ap (λ xs. take at file ++ xs) (drop-more file at 0 (omega arith) ∙ ap (λ b. b ∷ drop (at + 1) file) sign ∙ ap (λ xs. 64 ∷ xs) two)
 
-pub fits-sized : (file : List ℕ) → (length file ≡ 0 → ⊥) → length file ≤ 16384 → sized file ≡ true
-fits-sized file some few = and-from (leb 1 (length file)) (leb (length file) 16384) (le-leb 1 (length file) (omega arith)) (le-leb (length file) 16384 few)
+pub fits-sized : (file : List ℕ) → (length file ≡ 0 → ⊥) → length file ≤ most-bytes → sized file ≡ true
+fits-sized file some few = and-from (leb 1 (length file)) (leb (length file) most-bytes) (le-leb 1 (length file) (omega arith)) (le-leb (length file) most-bytes few)
 
 pub not-sized : (file : List ℕ) → (length file ≡ 0) ⊎ (16384 < length file) → sized file ≡ false
-not-sized file (inl none) = no-first (leb 1 (length file)) (leb (length file) 16384) (lt-leb 1 (length file) (omega arith))
-not-sized file (inr many) = no-second (leb 1 (length file)) (leb (length file) 16384) (lt-leb (length file) 16384 many)
+not-sized file (inl none) = no-first (leb 1 (length file)) (leb (length file) most-bytes) (lt-leb 1 (length file) (omega arith))
+not-sized file (inr many) = no-second (leb 1 (length file)) (leb (length file) most-bytes) (lt-leb (length file) most-bytes many)
 
 pub past-the-sign : (file : List ℕ) (at n : ℕ) → at ≤ length file → Last file (take at file) n → at < n → Bad-offset file
 past-the-sign file at n within last h =
@@ -123,3 +123,19 @@ one-cut file rows rules rows′ rules′ n n′ c c′ =
     let b = p .0 in
     let m = p .1 in
     (c .rows-are ∙ (λ i. take (m i) (b i)) ∙ sym (c′ .rows-are), c .rules-are ∙ (λ i. drop (m i) (b i)) ∙ sym (c′ .rules-are))
+
+-- what stands before the `@` is nothing, or ended by byte 10, and so are the rules
+pub rules-closed : (file rows rules : List ℕ) (n : ℕ) → Cut file rows rules n → Closed rules
+rules-closed file rows rules n c some =
+    let body = c .body in
+    let long : length rules ≡ length body - n = ap length (c .rules-are) ∙ length-drop n body in
+    let k : n + (length rules - 1) ≡ length body - 1 = omega arith in
+    let there : getD rules (length rules - 1) 0 ≡ getD body (length body - 1) 0 = ap (λ xs. getD xs (length rules - 1) 0) (c .rules-are) ∙ getD-drop n body (length rules - 1) 0 ∙ ap (λ j. getD body j 0) k in
+    let before : getD file (length body - 1) 0 ≡ getD body (length body - 1) 0 = ap (λ xs. getD xs (length body - 1) 0) (c .last .whole) ∙ getD-append-left body (64 ∷ (decimal n ++ 10 ∷ [])) 0 (length body - 1) (omega arith) in
+    there ∙ sym before ∙ after-break file (length body) (c .last .begins) (omega arith)
+
+pub rules-inside : (file rows rules : List ℕ) (n : ℕ) → sized file ≡ true → Cut file rows rules n → n + length rules ≤ most-bytes
+rules-inside file rows rules n y c =
+    let long : length rules ≡ length (c .body) - n = ap length (c .rules-are) ∙ length-drop n (c .body) in
+    let few = leb-true (length file) most-bytes (and-parts (leb 1 (length file)) (leb (length file) most-bytes) y .1) in
+    omega (arith, long, few, c .before, ap length (c .last .whole), length-append (c .body) (64 ∷ (decimal n ++ 10 ∷ [])))

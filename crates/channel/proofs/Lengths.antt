@@ -4,6 +4,7 @@ use mathlib.Core.List.{List, _++_}
 use Prim.Native.Nat.{ℕ, _+_, _^_, _≤_, _<_}
 use native.Mathlib.Omega.{arith}
 use lib.Chars.{codes}
+use lib.Dec.{lit≤}
 use lib.ListN.{length}
 use Rattle.std.specs.Of.String.{string-bytes}
 use Rattle.std.specs.Vec.{made}
@@ -20,7 +21,7 @@ use Rattle.channel.specs.Listing.{header, least-buffer, refused-line}
 use Rattle.channel.specs.Steps.{Line-text}
 use Rattle.channel.specs.declared.fault.FileFault.{FileFault}
 use Rattle.channel.specs.declared.fault.Layer.{Layer}
-use Rattle.channel.specs.declared.fault.Layer.the-variants.{File, Rows}
+use Rattle.channel.specs.declared.fault.Layer.the-variants.{File, Rows, Roster, Rule}
 
 pub header-fits : (states rules : ℕ) → states < 2 ^ 16 → rules < 2 ^ 64 → length (header states rules) ≤ least-buffer
 header-fits states rules h k =
@@ -28,9 +29,11 @@ header-fits states rules h k =
     let b = length-decimal-le 20 rules (omega arith) (omega arith) (omega arith) in
     omega (arith, a, b, length-append (decimal states) (codes " rules " ++ (decimal rules ++ codes "\n")), length-append (decimal rules) (codes "\n"))
 
-word-length : (l : Layer) → length (word l) ≡ 4
-word-length File = refl
-word-length Rows = refl
+word-length : (l : Layer) → length (word l) ≤ 6
+word-length File = lit≤ tt
+word-length Rows = lit≤ tt
+word-length Roster = lit≤ tt
+word-length Rule = lit≤ tt
 
 pub refused-fits : (n : ℕ) (e : FileFault) → n < 2 ^ 8 → place e < 2 ^ 64 → length (refused-line n e) ≤ least-buffer
 refused-fits n e h k =

@@ -1,3 +1,4 @@
+mod Lined
 mod LastLine
 mod Lengths
 mod OneFile

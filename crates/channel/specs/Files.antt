@@ -7,11 +7,16 @@ use lib.Dec.{eqb, leb}
 use lib.ListN.{length, getD, take, drop}
 use Rattle.std.specs.Written.{decimal}
 use Rattle.rowtext.specs.Format.{Line, Describes}
-use Rattle.text.specs.Pieces.{newlines}
+use Rattle.rows.specs.Rows.{some-start}
+use Rattle.channel.specs.RuleLines.{Rule-lines}
+
+-- a file has at most so many bytes
+abbrev pub most-bytes : ℕ
+most-bytes = 16384
 
 -- a file has 1 to 16,384 bytes
 abbrev pub sized : List ℕ → Bool
-sized file = leb 1 (length file) && leb (length file) 16384
+sized file = leb 1 (length file) && leb (length file) most-bytes
 
 -- a line begins at this place: it is 0, or byte 10 stands before it
 abbrev pub line-front : List ℕ → ℕ → Bool
@@ -32,7 +37,7 @@ pub record Cut (file rows rules : List ℕ) (n : ℕ) : Type 0 where
   pub rows-are : rows ≡ take n body
   pub rules-are : rules ≡ drop n body
 
--- a lawful file: its rows describe so many states, and it has so many rules
+-- a lawful file: its rows describe so many states, of which one is a start, and it has so many rules
 pub record Lawful-file (file : List ℕ) (states rules : ℕ) : Type 0 where
   pub sized-is : sized file ≡ true
   pub rows-part : List ℕ
@@ -41,5 +46,8 @@ pub record Lawful-file (file : List ℕ) (states rules : ℕ) : Type 0 where
   pub cut : Cut file rows-part rules-part offset
   pub lines : List Line
   pub described : Describes rows-part lines
+  pub started : some-start lines ≡ true
+  pub rule-lines : List (List ℕ)
+  pub laid : Rule-lines rules-part rule-lines
   pub states-are : states ≡ length lines
-  pub rules-are : rules ≡ newlines rules-part
+  pub rules-are : rules ≡ length rule-lines

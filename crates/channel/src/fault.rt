@@ -1,25 +1,41 @@
-// What can be wrong with a listing's buffer or file. A fault of the rows is carried whole.
+// What can be wrong with a listing's buffer or file. Faults of rows and of rule lines are carried whole.
 ghost use mathlib.Core.Path.{_≡_};
 ghost use Rattle.channel.specs.Faults.{layer as layer-of, number as number-of, place as place-of, word};
-ghost use Rattle.channel.specs.declared.fault.FileFault.the-variants.{Rows, Memory};
+ghost use Rattle.channel.specs.declared.fault.FileFault.the-variants.{Form, Rows, Rules, Memory};
+use crate::cause::Cause;
+use crate::line::LineFault;
+use crate::line::LineFaultDebug;
+use crate::line::LineFaultEq;
+use crate::line::LineFaultPartialEq;
 use rowtext::fault::RowFault;
 use rowtext::fault::RowFaultDebug;
 use rowtext::fault::RowFaultEq;
 use rowtext::fault::RowFaultPartialEq;
 use std::alloc::AllocError;
 
+// What can be wrong with a file before its rows are looked at.
 #[derive(Clone, Copy, PartialEq, Eq, Debug)]
-pub enum FileFault {
-    // The buffer has fewer than 1,024 bytes.
-    Buffer,
+pub enum FormFault {
     // The file has not 1 to 16,384 bytes.
     Size,
     // The last line is not `@` and an offset.
     LastLine,
     // The offset is past the `@`, or at no line's front.
     Offset,
+}
+
+#[derive(Clone, Copy, PartialEq, Eq, Debug)]
+pub enum FileFault {
+    // The buffer has fewer than 1,024 bytes.
+    Buffer,
+    // The file's outer form is broken.
+    Form(FormFault),
     // The rows are refused.
     Rows(RowFault),
+    // No state is a start.
+    NoStart,
+    // A rule line is refused.
+    Rules(LineFault),
     // There was no memory; the file may be lawful.
     Memory,
 }
@@ -29,6 +45,8 @@ pub enum FileFault {
 pub enum Layer {
     File,
     Rows,
+    Roster,
+    Rule,
 }
 
 impl Layer {
@@ -39,6 +57,8 @@ impl Layer {
         match self {
             Layer::File => "file",
             Layer::Rows => "rows",
+            Layer::Roster => "roster",
+            Layer::Rule => "rule",
         }
     }
 }
@@ -50,10 +70,15 @@ impl FileFault {
     {
         match self {
             FileFault::Buffer => Some(26),
-            FileFault::Size => Some(27),
-            FileFault::LastLine => Some(28),
-            FileFault::Offset => Some(29),
+            FileFault::Form(FormFault::Size) => Some(27),
+            FileFault::Form(FormFault::LastLine) => Some(28),
+            FileFault::Form(FormFault::Offset) => Some(29),
             FileFault::Rows(e) => e.number(),
+            FileFault::NoStart => Some(3),
+            FileFault::Rules(e) => match e.cause {
+                Cause::TooMany => Some(5),
+                Cause::Rule(fault) => fault.number(),
+            },
             FileFault::Memory => None,
         }
     }
@@ -63,6 +88,8 @@ impl FileFault {
     {
         match self {
             FileFault::Rows(_) => Layer::Rows,
+            FileFault::NoStart => Layer::Roster,
+            FileFault::Rules(_) => Layer::Rule,
             _ => Layer::File,
         }
     }
@@ -73,8 +100,20 @@ impl FileFault {
     {
         match self {
             FileFault::Rows(e) => e.place(),
+            FileFault::Rules(e) => match e.cause {
+                Cause::TooMany => e.front,
+                Cause::Rule(fault) => e.front + fault.place(),
+            },
             _ => 0,
         }
+    }
+}
+
+pub impl From<FormFault> for FileFault as FileFaultFromForm {
+    ghost converts = { λ e r. r ≡ Form e };
+
+    fn from(e: FormFault) -> FileFault {
+        FileFault::Form(e)
     }
 }
 
@@ -83,6 +122,14 @@ pub impl From<RowFault> for FileFault as FileFaultFromRows {
 
     fn from(e: RowFault) -> FileFault {
         FileFault::Rows(e)
+    }
+}
+
+pub impl From<LineFault> for FileFault as FileFaultFromRules {
+    ghost converts = { λ e r. r ≡ Rules e };
+
+    fn from(e: LineFault) -> FileFault {
+        FileFault::Rules(e)
     }
 }
 

@@ -4,7 +4,7 @@ ghost use Prim.Native.Nat.{_≤_, _<_};
 ghost use lib.ListN.{length};
 ghost use Rattle.channel.specs.Files.{line-front};
 ghost use Rattle.channel.specs.Steps.{Line-begins, LastOr, PartsOr};
-use crate::fault::FileFault;
+use crate::fault::FormFault;
 use text::figures::number;
 
 pub(crate) const MOST_BYTES: usize = 16384;
@@ -60,21 +60,21 @@ fn last_line(file: &[u8]) -> Option<(usize, usize)>
     }
 }
 
-pub(crate) fn split(file: &[u8]) -> Result<Parts<'_>, FileFault>
+pub(crate) fn split(file: &[u8]) -> Result<Parts<'_>, FormFault>
     ensures { λ r. ⌜ PartsOr (now (file .entry)) r ⌝ }
 {
     if file.len() == 0 || file.len() > MOST_BYTES {
-        return Err(FileFault::Size);
+        return Err(FormFault::Size);
     }
     let (at, offset) = match last_line(file) {
         Some(found) => found,
-        None => return Err(FileFault::LastLine),
+        None => return Err(FormFault::LastLine),
     };
     if offset > at {
-        return Err(FileFault::Offset);
+        return Err(FormFault::Offset);
     }
     if !is_line_front(file, offset) {
-        return Err(FileFault::Offset);
+        return Err(FormFault::Offset);
     }
     Ok(Parts {
         rows: &file[0..offset],

@@ -2,9 +2,11 @@
 ghost use Rattle.channel.specs.Steps.{SummaryOr};
 use crate::fault::FileFault;
 use crate::fault::FileFaultFromAlloc;
+use crate::fault::FileFaultFromForm;
 use crate::fault::FileFaultFromRows;
+use crate::fault::FileFaultFromRules;
 use crate::parts::split;
-use crate::rules::rule_lines;
+use crate::rules::read_rules;
 use model::Model;
 use rows::answers::RowModelAnswers;
 use rows::model::RowModel;
@@ -22,7 +24,10 @@ pub(crate) fn summary_of(heap: Global, file: &[u8]) -> Result<Summary, FileFault
     let parts = split(file)?;
     let mut model = RowModel::new(heap)?;
     model.fill(heap, parts.rows)?;
+    if !model.has_start() {
+        return Err(FileFault::NoStart);
+    }
     let states = model.count();
-    let rules = rule_lines(parts.rules);
+    let rules = read_rules(heap, parts.rules, parts.offset)?;
     Ok(Summary { states, rules })
 }

@@ -16,6 +16,12 @@ use Rattle.rowtext.specs.declared.row.Row.{Row}
 abbrev pub resting : Line
 resting = record { start = true; marks = []; targets = 0 ∷ [] }
 
+-- some line is a start's
+abbrev pub some-start : List Line → Bool
+some-start [] = false
+some-start (l ∷ ls) = l .start || some-start ls
+
+-- the number stands in the list
 abbrev pub has : List ℕ → ℕ → Bool
 has [] x = false
 has (y ∷ ys) x = eqb y x || has ys x
@@ -29,10 +35,12 @@ rows-meaning rows = record {
   mark = λ s c. getD (map (λ r. has (vec-items (r .marks)) c) rows) s false;
 }
 
+-- some target is below n
 abbrev pub some-below : ℕ → List ℕ → Bool
 some-below n [] = false
 some-below n (t ∷ ts) = ltb t n || some-below n ts
 
+-- each row has such a target
 abbrev pub each-goes-on : ℕ → List Row → Bool
 each-goes-on n [] = true
 each-goes-on n (r ∷ rs) = some-below n (vec-items (r .targets)) && each-goes-on n rs

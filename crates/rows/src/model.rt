@@ -6,7 +6,7 @@ ghost use Prim.Native.Nat.{_≤_};
 ghost use Rattle.std.specs.Of.Vec.{vec-items, vec-len};
 ghost use Rattle.std.specs.Results.{Cases};
 ghost use Rattle.std.specs.Vec.{made};
-ghost use Rattle.rows.specs.Rows.{resting, Goes-on, Refused-text};
+ghost use Rattle.rows.specs.Rows.{resting, some-start, Goes-on, Refused-text};
 ghost use Rattle.rowtext.specs.Format.{Describes, lines-of, most-rows};
 ghost use Rattle.rowtext.specs.declared.fault.RowFault.the-variants.{Memory};
 use crate::checked::lawful_rows;
@@ -49,5 +49,16 @@ impl RowModel {
         let rows = lawful_rows(heap, text)?;
         self.rows = rows;
         Ok(())
+    }
+
+    // Is some state a start?
+    pub fn has_start(&self) -> bool
+        ensures { λ r. ⌜ r ≡ some-start (lines-of (vec-items (now (self .entry) .rows))) ⌝ }
+    {
+        let mut any = false;
+        for row in self.rows.iter() {
+            any = any | row.start;
+        }
+        any
     }
 }
