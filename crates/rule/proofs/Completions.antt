@@ -1,13 +1,13 @@
 -- Whatever the walk has taken can be completed to a rule, and what it takes whole is one.
 use Prim.Native.Nat.{ℕ}
-use mathlib.Core.Path.{_≡_, refl, sym, _∙_, ap, subst}
+use mathlib.Core.Path.{_≡_, refl, sym, subst}
 use mathlib.Core.List.{List, [], _∷_, _++_}
 use Rattle.ctl.specs.Formula.{Formula, PathPart}
 use Rattle.ctl.specs.declared.Binary.{Binary as BinaryOp}
-use Rattle.ctl.specs.declared.Binary.the-variants.{Until, Release}
-use Rattle.rule.specs.Grammar.{Spaces, none, more, Reads, here, skip, IsUnit, by-letter, by-constant, by-not, by-group, by-path, IsPathPart, by-one, by-two, IsTerm, by-unit, by-and, IsRule, by-term, by-or, Means, Lawful, Begins}
+use Rattle.ctl.specs.declared.Binary.the-variants.{Until}
+use Rattle.rule.specs.Grammar.{Spaces, none, more, Reads, here, skip, IsUnit, by-letter, by-constant, by-not, by-group, by-path, IsPathPart, by-one, by-two, IsTerm, by-unit, by-and, IsRule, by-term, by-or, Lawful, Begins}
 use Rattle.rule.specs.Signs.{sign-of}
-use Rattle.rule.proofs.Walk.{Await, closing, joining, State, need, part, after, Move, stuck, to, join, close, step, Walk, done, stopped, ended, moved, walk}
+use Rattle.rule.proofs.Walk.{Await, closing, joining, State, need, part, after, Move, stuck, to, join, close, step, done, stopped, moved, walk}
 use Rattle.rule.specs.declared.sign.Sign.{Sign}
 use Rattle.rule.specs.declared.sign.Sign.the-variants.{Letter, Constant, Not, And, Or, Open, Close, Quantifier, Unary, Binary, Space, Other}
 use Rattle.rule.proofs.Cases.{zero-is-not-one}

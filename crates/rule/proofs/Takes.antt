@@ -5,7 +5,7 @@ use mathlib.Core.List.{List, [], _∷_}
 use Rattle.ctl.specs.Formula.{Formula, PathPart}
 use Rattle.rule.specs.Grammar.{Spaces, none, more, Reads, here, skip, IsUnit, by-letter, by-constant, by-not, by-group, by-path, IsPathPart, by-one, by-two, IsTerm, by-unit, by-and, IsRule, by-term, by-or, Means}
 use Rattle.rule.specs.Signs.{sign-of}
-use Rattle.rule.proofs.Walk.{Await, closing, joining, State, need, part, after, Move, to, step, Walk, done, stopped, moved, walk}
+use Rattle.rule.proofs.Walk.{Await, closing, joining, State, need, part, after, Move, to, step, done, stopped, moved, walk}
 use Rattle.rule.specs.declared.sign.Sign.{Sign}
 use Rattle.rule.specs.declared.sign.Sign.the-variants.{Space}
 

@@ -1,6 +1,5 @@
 -- Trees with equal formulas are the same tree.
 use mathlib.Core.Path.{_≡_}
-use Rattle.ctl.specs.Formula.{Formula, PathPart as PartFormula, constant, literal, join, path, one, two}
 use Rattle.rule.specs.Tree.{formula, part-formula, Same, Same-part}
 use Rattle.rule.specs.declared.tree.Rule.{Rule}
 use Rattle.rule.specs.declared.tree.PathPart.{PathPart}

@@ -1,12 +1,6 @@
 -- The formula that a tree of the code stands for, and when two trees are the same.
-use Prim.Native.Nat.{ℕ}
-use mathlib.Core.Bool.{Bool}
 use mathlib.Core.Path.{_≡_}
 use Rattle.ctl.specs.Formula.{Formula, PathPart as PartFormula, constant, literal, join, path, one, two}
-use Rattle.ctl.specs.declared.Quantifier.{Quantifier}
-use Rattle.ctl.specs.declared.Connective.{Connective}
-use Rattle.ctl.specs.declared.Unary.{Unary}
-use Rattle.ctl.specs.declared.Binary.{Binary}
 use Rattle.rule.specs.declared.tree.Rule.{Rule}
 use Rattle.rule.specs.declared.tree.PathPart.{PathPart}
 use Rattle.rule.specs.declared.tree.PathPart.the-variants.{Constant, Literal, Join′, Path′, One, Two}

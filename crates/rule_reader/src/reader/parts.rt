@@ -1,7 +1,7 @@
 // The readings of units, path parts, terms and rules, which call each other as the grammar does. Each
 // takes what it can, and stands behind it; a refusal is at the place where no rule could go on.
-ghost use Prim.Native.Nat.{_≤_, _<_};
-ghost use mathlib.Core.List.{List, [], _∷_};
+ghost use Prim.Native.Nat.{_≤_};
+ghost use mathlib.Core.List.{[], _∷_};
 ghost use mathlib.Core.Path.{_≡_};
 ghost use Rattle.rule_reader.specs.Ahead.{bytes, ahead};
 ghost use Rattle.rule.specs.Grammar.{Reads, IsUnit, IsPathPart, IsTerm, IsRule, Means};

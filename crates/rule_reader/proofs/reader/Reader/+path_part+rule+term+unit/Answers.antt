@@ -1,7 +1,6 @@
 use borrow.Author.Needs.{needs}
-use mathlib.Core.Path.{refl, sym, _∙_, ap}
+use mathlib.Core.Path.{sym, _∙_, ap}
 use native.Mathlib.Omega.{arith}
-use Rattle.rule_reader.specs.Ahead.{ahead}
 use Rattle.rule.specs.Grammar.{by-letter, by-constant, by-not, by-group, by-path, by-one, by-two, by-unit, by-and, by-term, by-or}
 use Rattle.rule.specs.declared.sign.Sign.the-variants.{And, Or}
 use Rattle.std.specs.declared.option.Option.the-variants.{Some}

@@ -1,5 +1,3 @@
-use mathlib.Core.Path.{_≡_, subst}
-use Rattle.rule_reader.specs.Ahead.{bytes, ahead}
 use Rattle.std.proofs.shelf.Results.{err-from-errBy}
 use Rattle.rule_reader.proofs.Halting.{behind-rule}
 use Rattle.rule_reader.proofs.reader.Reader.whole.Needs as need

@@ -1,6 +1,5 @@
 use native.Mathlib.Omega.{arith}
-use mathlib.Core.Path.{sym, _∙_}
-use Prim.Native.Nat.{ℕ}
+use mathlib.Core.Path.{sym}
 use Rattle.rule.specs.Grammar.{none}
 use Rattle.rule.proofs.Cases.{zero-is-not-one}
 use Rattle.rule_reader.proofs.Places.{spaces-go-on, first-at-place, first-at-end}
