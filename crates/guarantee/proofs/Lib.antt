@@ -1,0 +1,4 @@
+pub mod Listing
+pub mod Recording
+pub mod Trying
+pub mod Settling
