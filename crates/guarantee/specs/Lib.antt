@@ -1,5 +1,7 @@
 pub mod Calls
+pub mod Claims
 pub mod Faults
+pub mod Law
 pub mod Limits
 pub mod Records
 pub mod Rights
