@@ -5,3 +5,5 @@ pub mod Settling
 pub mod Numbering
 pub mod Stepping
 pub mod Running
+pub mod Ruling
+pub mod Opening

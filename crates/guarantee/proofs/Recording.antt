@@ -13,7 +13,7 @@ use Rattle.ctl.specs.Formula.{Formula}
 use Rattle.ctl.specs.Verdict.{Decided, Verdict-is}
 use Rattle.ctl.specs.declared.Verdict.{Verdict}
 use Rattle.ctl.specs.declared.Verdict.the-variants.{Holds, Fails, Undecided}
-use Rattle.guarantee.specs.Records.{no-record, known-at, found-by, undecided-by, first-of, highest, lowest, noted}
+use Rattle.guarantee.specs.Records.{no-record, known-at, found-by, undecided-by, first-of, highest-of, lowest-of, noted}
 use Rattle.guarantee.specs.Rights.{Right}
 use Rattle.guarantee.specs.declared.record.Found.{Found}
 use Rattle.guarantee.specs.declared.record.Record.{Record}
@@ -61,11 +61,11 @@ module _ (m : Meaning) (law : Total m) (f : Formula) (k : ℕ) where
       go None q e = undecided-is-right (r .undecided) v (h .low) e
       go (Some w) q e = found-verdict (r .found) w (h .high) q ∙ some-is e
 
-  highest-is-right : (o : Option ℕ) → Low m f o → verdict-at m f k ≡ Undecided → verdict-at m f (highest o k) ≡ Undecided
+  highest-is-right : (o : Option ℕ) → Low m f o → verdict-at m f k ≡ Undecided → verdict-at m f (highest-of o k) ≡ Undecided
   highest-is-right None h e = e
   highest-is-right (Some u) h e = elim (leb u k) as (λ b. verdict-at m f (cond b k u) ≡ Undecided) [ true ↦ e | false ↦ h u refl ]
 
-  lowest-is-right : (o : Option Found) (w : Verdict) → Decided w → High m f o → verdict-at m f k ≡ w → Settles-at m f (lowest o k w)
+  lowest-is-right : (o : Option Found) (w : Verdict) → Decided w → High m f o → verdict-at m f k ≡ w → Settles-at m f (lowest-of o k w)
   lowest-is-right None w y h e = (e, y)
   lowest-is-right (Some x) w y h e = go (leb (x .bound) k)
     where

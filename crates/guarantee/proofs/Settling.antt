@@ -33,6 +33,12 @@ use Rattle.guarantee.proofs.Trying.{Judges, formulas, try-is-right, entries-af
 pub decided-by-the-count : (m : Meaning) → decided-from m ≤ m .count
 decided-by-the-count m = omega arith
 
+-- tries from a bound up end with a verdict
+pub ends-decided : {i limit k : ℕ} {a : Settled} {ts : List Try} → Climbs i limit k a ts → Decided (a .verdict)
+ends-decided (decides y) = y
+ends-decided (goes-on c) = ends-decided c
+ends-decided (passes-over w c) = ends-decided c
+
 -- what the tries of rule i from bound k on make of the entries, when looks and passed count those before
 pub record Climbed (m : Meaning) (i : ℕ) (f : Formula) (limit : ℕ) (es : List Entry) (k looks passed : ℕ) (r : Settling) : Type 0 where
   pub right : All-right m (r .entries)

@@ -22,8 +22,8 @@ use Rattle.guarantee.specs.Calls.{Call, lay, try, settle, standing, path, Answ
 use Rattle.guarantee.specs.Limits.{most-states}
 use Rattle.guarantee.specs.Rights.{All-right}
 use Rattle.guarantee.specs.Runs.{Step, lays, tries, settles, stands, writes}
-use Rattle.guarantee.specs.States.{State, opened, Entry, fresh, Settling, lay-fault, Lays-by, Reads-as, lay-answer, lay-after, try-entry, entries-after, settling, settle-entry, settle-entries, standing-entry}
-use Rattle.guarantee.specs.Tries.{both-there, laid, Try, Stands-for, lay-none, try-itself, settle-climbs, settle-refused, standing-none, path-none, Climbs, Told, recorded, verdict-in, told}
+use Rattle.guarantee.specs.States.{State, opened, Entry, fresh-entry, Settling, lay-fault, Lays-by, Reads-as, lay-answer, lay-after, try-entry, entries-after, whole-settle, settle-entry, settle-entries, standing-entry}
+use Rattle.guarantee.specs.Tries.{both-there, laid, Try, Stands-for, lay-none, try-itself, settle-climbs, settle-refused, standing-none, path-none, Climbs, Told, verdict-recorded, verdict-in, told}
 use Rattle.guarantee.specs.declared.answer.Settled.{Settled}
 use Rattle.guarantee.specs.declared.answer.Tried.{Tried}
 use Rattle.guarantee.specs.declared.fault.RosterFault.{RosterFault}
@@ -87,10 +87,10 @@ module _ (m : Meaning) (law : Total m) (es : List Entry) (h : All-right m es) wh
   lay-read : (text : List ℕ) (r : Result Formula RuleFault) → Reads-as text r → (a : Result ℕ RosterFault) (s′ : State)
       → a ≡ lay-answer (opened m es) r → s′ ≡ lay-after (opened m es) r → Stepped m es (lay text) (to-lay a) s′
   lay-read text (Ok f) reads a s′ ea es′ = subst (λ a. Stepped m es (lay text) (to-lay a) s′) (sym ea) (record {
-    entries = es ++ (fresh f ∷ []);
+    entries = es ++ (fresh-entry f ∷ []);
     state = es′;
     right = added-is-right m law es f h;
-    grown = (f, map-append (λ e. e .formula) es (fresh f ∷ []), sym (length-map es (λ e. e .formula)), reads .1);
+    grown = (f, map-append (λ e. e .formula) es (fresh-entry f ∷ []), sym (length-map es (λ e. e .formula)), reads .1);
     truth = nothing-told;
     made = [];
     stand-for = lay-none;
@@ -150,12 +150,12 @@ module _ (m : Meaning) (law : Total m) (es : List Entry) (h : All-right m es) wh
   settle-step small i limit (Some x) q s′ e =
       let f = x .formula in
       let at-i : nth (formulas es) i ≡ Some f = formula-at es i x q in
-      let c : Climbed m i f limit es 0 0 0 (settling m es i limit) = climbing.settles m law small i f limit (suc (m .count)) es 0 0 0 h at-i (omega arith) (omega arith) in
+      let c : Climbed m i f limit es 0 0 0 (whole-settle m es i limit) = climbing.settles m law small i f limit (suc (m .count)) es 0 0 0 h at-i (omega arith) (omega arith) in
       let own : Settled = record { verdict = c .verdict-is; bound = c .bound-is; looks = c .own-looks; passed = c .own-passed } in
-      let is : settling m es i limit .answer ≡ own = c .answer-is
+      let is : whole-settle m es i limit .answer ≡ own = c .answer-is
       ∙ ap₂ (λ l p. record { verdict = c .verdict-is; bound = c .bound-is; looks = l; passed = p }) (zero-add (c .own-looks)) (zero-add (c .own-passed)) in
       subst (λ a. Stepped m es (settle i limit) (to-settle (Ok a)) s′) (sym is) (record {
-        entries = settling m es i limit .entries;
+        entries = whole-settle m es i limit .entries;
         state = e;
         right = c .right;
         grown = c .same;
@@ -169,7 +169,7 @@ module _ (m : Meaning) (law : Total m) (es : List Entry) (h : All-right m es) wh
 
   -- ---- standing
   record-told : (i : ℕ) (x : Entry) → nth es i ≡ Some x → (o : Option Found) → x .said .found ≡ o → (t : Told)
-      → both-there (λ i v. record { rule = i; verdict = v }) (Some i) (recorded o) ≡ Some t → True-told m (formulas es) t
+      → both-there (λ i v. record { rule = i; verdict = v }) (Some i) (verdict-recorded o) ≡ Some t → True-told m (formulas es) t
   record-told i x q None w t e = absurd (none-some e)
   record-told i x q (Some y) w t e = verdict-told i (y .bound) (x .formula) (y .verdict) (formula-at es i x q) (h i x q .high y w .0) t e
 

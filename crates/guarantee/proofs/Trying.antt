@@ -20,7 +20,7 @@ use Rattle.ctl.specs.declared.Verdict.{Verdict}
 use Rattle.guarantee.specs.Limits.{most-bound}
 use Rattle.guarantee.specs.Records.{known-at}
 use Rattle.guarantee.specs.Rights.{Right, All-right}
-use Rattle.guarantee.specs.States.{Entry, fresh, looks-at, judged, try-entry, with-note, noted-in, entries-after}
+use Rattle.guarantee.specs.States.{Entry, fresh-entry, looks-at, judged, try-entry, with-note, noted-in, entries-after}
 use Rattle.guarantee.specs.declared.answer.Tried.{Tried}
 use Rattle.guarantee.specs.declared.fault.RosterFault.{RosterFault}
 use Rattle.guarantee.specs.declared.fault.RosterFault.the-variants.{Looks, Bound}
@@ -62,8 +62,8 @@ module _ (m : Meaning) (law : Total m) where
       go z (inl q) g = subst (λ w. Right m (w .formula) (w .said)) (sym q) r
       go z (inr q) g = g q
 
-  pub added-is-right : (es : List Entry) (f : Formula) → All-right m es → All-right m (es ++ (fresh f ∷ []))
-  added-is-right es f h = changed-is-right es (es ++ (fresh f ∷ [])) (fresh f) (λ j z e. nth-last es (fresh f) j z e) h (no-record-is-right m f)
+  pub added-is-right : (es : List Entry) (f : Formula) → All-right m es → All-right m (es ++ (fresh-entry f ∷ []))
+  added-is-right es f h = changed-is-right es (es ++ (fresh-entry f ∷ [])) (fresh-entry f) (λ j z e. nth-last es (fresh-entry f) j z e) h (no-record-is-right m f)
 
   noted-in-is-right : (es : List Entry) (i k limit : ℕ) (e : Entry) (o : Option Verdict) (a : Result Tried RosterFault) → All-right m es → nth es i ≡ Some e
       → Judges m (e .formula) k limit a → All-right m (noted-in es i k e o a)

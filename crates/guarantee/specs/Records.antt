@@ -33,17 +33,17 @@ abbrev pub known-at : Record → ℕ → Option Verdict
 known-at r k = first-of (found-by (r .found) k) (undecided-by (r .undecided) k)
 
 -- the higher of k and the bound recorded
-abbrev pub highest : Option ℕ → ℕ → ℕ
-highest None k = k
-highest (Some u) k = cond (leb u k) k u
+abbrev pub highest-of : Option ℕ → ℕ → ℕ
+highest-of None k = k
+highest-of (Some u) k = cond (leb u k) k u
 
 -- the lower of k and the bound recorded, with its verdict
-abbrev pub lowest : Option Found → ℕ → Verdict → Found
-lowest None k v = record { bound = k; verdict = v }
-lowest (Some x) k v = cond (leb (x .bound) k) x (record { bound = k; verdict = v })
+abbrev pub lowest-of : Option Found → ℕ → Verdict → Found
+lowest-of None k v = record { bound = k; verdict = v }
+lowest-of (Some x) k v = cond (leb (x .bound) k) x (record { bound = k; verdict = v })
 
 -- the record after bound k was evaluated to v
 abbrev pub noted : Record → ℕ → Verdict → Record
-noted r k Holds = record { undecided = r .undecided; found = Some (lowest (r .found) k Holds) }
-noted r k Fails = record { undecided = r .undecided; found = Some (lowest (r .found) k Fails) }
-noted r k Undecided = record { undecided = Some (highest (r .undecided) k); found = r .found }
+noted r k Holds = record { undecided = r .undecided; found = Some (lowest-of (r .found) k Holds) }
+noted r k Fails = record { undecided = r .undecided; found = Some (lowest-of (r .found) k Fails) }
+noted r k Undecided = record { undecided = Some (highest-of (r .undecided) k); found = r .found }

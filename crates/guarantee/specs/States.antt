@@ -67,8 +67,8 @@ just-opened m = opened (guarded m) []
 -- ---- lay
 
 -- a rule laid anew
-abbrev pub fresh : Formula → Entry
-fresh f = record { formula = f; said = no-record }
+abbrev pub fresh-entry : Formula → Entry
+fresh-entry f = record { formula = f; said = no-record }
 
 -- lay's refusal before the text is read
 abbrev pub lay-fault : State → Option RosterFault
@@ -91,13 +91,13 @@ lay-answer s (Ok f) = Ok (next-number s)
 lay-answer s (Err e) = Err (Rule e)
 
 -- a rule is added with an empty record
-abbrev pub added : State → Formula → State
-added blank f = blank
-added (opened m es) f = opened m (es ++ (fresh f ∷ []))
+abbrev pub with-rule : State → Formula → State
+with-rule blank f = blank
+with-rule (opened m es) f = opened m (es ++ (fresh-entry f ∷ []))
 
 -- the roster, once the text is read
 abbrev pub lay-after : State → Result Formula RuleFault → State
-lay-after s (Ok f) = added s f
+lay-after s (Ok f) = with-rule s f
 lay-after s (Err e) = s
 
 -- lay answers a and leaves s′; it is refused before it reads, or by what it reads
@@ -172,12 +172,12 @@ settle-from m i limit (suc left) es k looks passed =
     (λ n p. settle-from m i limit left (entries-after es i k (nth es i) (try-entry m (nth es i) k limit)) (suc k) n p)
 
 -- from bound 0 up to the count of states
-abbrev pub settling : Meaning → List Entry → ℕ → ℕ → Settling
-settling m es i limit = settle-from m i limit (suc (m .count)) es 0 0 0
+abbrev pub whole-settle : Meaning → List Entry → ℕ → ℕ → Settling
+whole-settle m es i limit = settle-from m i limit (suc (m .count)) es 0 0 0
 
 abbrev pub settle-entry : Meaning → List Entry → ℕ → ℕ → Option Entry → Result Settled RosterFault
 settle-entry m es i limit None = Err NotLaid
-settle-entry m es i limit (Some e) = Ok (settling m es i limit .answer)
+settle-entry m es i limit (Some e) = Ok (whole-settle m es i limit .answer)
 
 abbrev pub settle-answer : State → ℕ → ℕ → Result Settled RosterFault
 settle-answer blank i limit = Err Blank
@@ -185,7 +185,7 @@ settle-answer (opened m es) i limit = settle-entry m es i limit (nth es i)
 
 abbrev pub settle-entries : Meaning → List Entry → ℕ → ℕ → Option Entry → List Entry
 settle-entries m es i limit None = es
-settle-entries m es i limit (Some e) = settling m es i limit .entries
+settle-entries m es i limit (Some e) = whole-settle m es i limit .entries
 
 abbrev pub settle-after : State → ℕ → ℕ → State
 settle-after blank i limit = blank

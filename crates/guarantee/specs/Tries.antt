@@ -106,9 +106,9 @@ rule-in (standing i) = Some i
 rule-in (path i k limit buffer) = Some i
 
 -- the verdict of a record, if it has one
-abbrev pub recorded : Option Found → Option Verdict
-recorded None = None
-recorded (Some x) = Some (x .verdict)
+abbrev pub verdict-recorded : Option Found → Option Verdict
+verdict-recorded None = None
+verdict-recorded (Some x) = Some (x .verdict)
 
 -- the verdict that an answer tells
 abbrev pub verdict-in : Answer → Option Verdict
@@ -117,7 +117,7 @@ verdict-in (to-try (Ok t)) = Some (t .verdict)
 verdict-in (to-try (Err e)) = None
 verdict-in (to-settle (Ok t)) = Some (t .verdict)
 verdict-in (to-settle (Err e)) = None
-verdict-in (to-standing (Ok r)) = recorded (r .found)
+verdict-in (to-standing (Ok r)) = verdict-recorded (r .found)
 verdict-in (to-standing (Err e)) = None
 verdict-in (to-path a buffer) = None
 

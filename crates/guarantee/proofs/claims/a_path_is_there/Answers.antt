@@ -1,0 +1,5 @@
+use Rattle.guarantee.proofs.Opening.{a-path-is-there}
+use Rattle.guarantee.proofs.claims.a_path_is_there.Needs as need
+
+pub returns : need.returns
+returns c = a-path-is-there
