@@ -7,3 +7,4 @@ pub mod Stepping
 pub mod Running
 pub mod Ruling
 pub mod Opening
+pub mod Answering

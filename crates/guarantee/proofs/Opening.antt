@@ -1,9 +1,9 @@
 -- What open's questions give of the model, and what settle and path can rely on.
 use mathlib.Core.Bool.{Bool, true, false, cond, _&&_, false≢true}
-use mathlib.Core.List.{List, [], _∷_}
-use mathlib.Core.Logic.{_⊎_, inl, inr}
-use mathlib.Core.Path.{_≡_, refl, sym, _∙_, ap, ap₂, subst}
-use Prim.Native.Nat.{ℕ, zero, suc, _+_, _<_, _≤_}
+use mathlib.Core.List.{List}
+use mathlib.Core.Logic.{inl, inr}
+use mathlib.Core.Path.{_≡_, refl, sym, _∙_, ap, ap₂}
+use Prim.Native.Nat.{ℕ, suc, _<_, _≤_}
 use native.Mathlib.Omega.{arith}
 use native.Mathlib.Nat.{zero-add}
 use lib.Dec.{leb, ltb}
@@ -11,7 +11,7 @@ use Rattle.std.proofs.shelf.Tests.{leb-true}
 use Rattle.std.specs.Finite.{nth}
 use Rattle.std.specs.declared.option.Option.{Option}
 use Rattle.std.specs.declared.option.Option.the-variants.{Some, None}
-use Rattle.std.specs.declared.result.Result.the-variants.{Ok, Err}
+use Rattle.std.specs.declared.result.Result.the-variants.{Ok}
 use Rattle.model.specs.Meaning.{Meaning, Starts, Moves, Total, guarded}
 use Rattle.ctl.proofs.Deciding.{dec}
 use Rattle.ctl.proofs.Guards.{both, to-both, starts-at-a-state}
@@ -20,24 +20,22 @@ use Rattle.ctl.proofs.Listed.{by-lists}
 use Rattle.ctl.proofs.Tests.{Least, least}
 use Rattle.ctl.specs.Formula.{Formula, PathPart, constant, literal, join, path, negation, negation-part}
 use Rattle.ctl.specs.Truth.{upto, True}
-use Rattle.ctl.specs.Verdict.{Verdict-is, Decided}
+use Rattle.ctl.specs.Verdict.{Verdict-is}
 use Rattle.ctl.specs.declared.Quantifier.the-variants.{All, Exists}
 use Rattle.ctl.specs.declared.Verdict.{Verdict}
 use Rattle.ctl.specs.declared.Verdict.the-variants.{Holds, Fails, Undecided}
-use Rattle.guarantee.specs.Claims.{Every-opened-run-is-guaranteed, Records-stay-right, Settles, Settle-ends, A-path-is-there}
+use Rattle.guarantee.specs.Claims.{Every-opened-run-is-guaranteed, Records-stay-right, Settle-ends, A-path-is-there}
 use Rattle.guarantee.specs.Limits.{most-states, most-bound}
 use Rattle.guarantee.specs.Records.{found-by}
-use Rattle.guarantee.specs.Rights.{Right, All-right}
-use Rattle.guarantee.specs.States.{Entry, opened, blank, open-fault, model-fault, looks-at, whole-settle, settle-entry, root-shows, quantifier-shows, witness-fault, entry-path-fault, path-fault, Lowest, Shown-from, Shows, Shows-found, Entry-shows}
-use Rattle.guarantee.specs.declared.answer.Settled.{Settled}
+use Rattle.guarantee.specs.Rights.{Right}
+use Rattle.guarantee.specs.States.{Entry, blank, open-fault, whole-settle, settle-entry, root-shows, witness-fault, entry-path-fault, Lowest, Shown-from, Shows, Shows-found, Entry-shows}
 use Rattle.guarantee.specs.declared.fault.RosterFault.{RosterFault}
-use Rattle.guarantee.specs.declared.fault.RosterFault.the-variants.{Size, NoStart, Bound, Looks, Room, Root}
-use Rattle.guarantee.proofs.Listing.{some-is, none-some}
+use Rattle.guarantee.proofs.Listing.{none-some}
 use Rattle.guarantee.proofs.Recording.{found-is-right}
 use Rattle.guarantee.proofs.Running.{every-run-is-guaranteed}
 use Rattle.guarantee.proofs.Settling.{Climbed}
 use Rattle.guarantee.proofs.Settling as climbing
-use Rattle.guarantee.proofs.Stepping.{Stepped, steps}
+use Rattle.guarantee.proofs.Stepping.{steps}
 use Rattle.guarantee.proofs.Trying.{formula-at}
 
 -- where a test says no, there is a refusal; so where there is none, it says yes

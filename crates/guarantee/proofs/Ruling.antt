@@ -1,28 +1,25 @@
 -- Hollow rosters and a wrong verdict do not have the guarantee.
-use mathlib.Core.Bool.{true, false, false≢true}
+use mathlib.Core.Bool.{true, false≢true}
 use mathlib.Core.List.{List, [], _∷_, _++_, map, List·Memᴰ, List·Memᴰ·head, List·Memᴰ·eq-of-singleton}
 use mathlib.Core.Path.{_≡_, refl, sym, _∙_, ap, ap₂, subst}
-use Prim.Native.Nat.{ℕ, zero, suc, _<_, _≤_}
+use Prim.Native.Nat.{ℕ, _<_, _≤_}
 use native.Mathlib.Omega.{arith}
-use Rattle.std.specs.declared.option.Option.{Option}
-use Rattle.std.specs.declared.option.Option.the-variants.{Some, None}
+use Rattle.std.specs.declared.option.Option.the-variants.{Some}
 use Rattle.std.specs.declared.result.Result.{Result}
 use Rattle.std.specs.declared.result.Result.the-variants.{Ok, Err}
 use Rattle.model.specs.Meaning.{Meaning}
 use Rattle.ctl.specs.Formula.{Formula, literal}
 use Rattle.ctl.specs.States.{decided-from}
-use Rattle.ctl.specs.Verdict.{Decided}
 use Rattle.ctl.specs.Verdict as verdicts
 use Rattle.ctl.specs.Worked.{single}
 use Rattle.ctl.specs.declared.Verdict.the-variants.{Holds, Undecided}
 use Rattle.rule.specs.Grammar.{Means}
 use Rattle.rule.proofs.Formulas.{one-formula}
 use Rattle.guarantee.specs.Calls.{Call, lay, try, settle, Answer, to-lay, to-try, to-settle}
-use Rattle.guarantee.specs.Claims.{Rules-out, Hollow-rosters-are-ruled-out, A-wrong-verdict-is-ruled-out}
-use Rattle.guarantee.specs.Law.{Event, listed, laid-in, Rule-under, Each, Numbered, Truthful, Refused-for-looks, Answering, Guarantee}
+use Rattle.guarantee.specs.Claims.{Hollow-rosters-are-ruled-out, A-wrong-verdict-is-ruled-out}
+use Rattle.guarantee.specs.Law.{Event, listed, Rule-under, Each, Numbered, Truthful, Refused-for-looks, Answering, Guarantee}
 use Rattle.guarantee.specs.Limits.{most-bound}
-use Rattle.guarantee.specs.States.{looks-at}
-use Rattle.guarantee.specs.Tries.{Laid, laid, Try, Stands-for, try-itself, settle-climbs, Climbs, Told, told}
+use Rattle.guarantee.specs.Tries.{laid, Try, Stands-for, try-itself, settle-climbs, Climbs, Told, told}
 use Rattle.guarantee.specs.declared.answer.Settled.{Settled}
 use Rattle.guarantee.specs.declared.answer.Tried.{Tried}
 use Rattle.guarantee.specs.declared.fault.RosterFault.{RosterFault}

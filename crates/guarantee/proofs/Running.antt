@@ -1,11 +1,10 @@
 -- Every run on an open roster with no rule laid has the guarantee.
 use mathlib.Core.List.{List, [], _∷_, _++_, map, List·Memᴰ, List·Memᴰ·cases-cons, List·Memᴰ·not-nil, Memᴰ·append-left, append-assoc, append-nil}
 use mathlib.Core.Logic.{_⊎_, inl, inr}
-use mathlib.Core.Path.{_≡_, refl, sym, _∙_, ap, ap₂, subst}
-use Prim.Native.Nat.{ℕ, zero, suc, _+_, _<_, _≤_}
+use mathlib.Core.Path.{_≡_, refl, sym, _∙_, ap, subst}
+use Prim.Native.Nat.{ℕ, _<_, _≤_}
 use native.Mathlib.Decide.{decLe}
 use native.Mathlib.Omega.{arith}
-use lib.ListN.{length}
 use Rattle.std.specs.Finite.{nth}
 use Rattle.std.specs.declared.option.Option.{Option}
 use Rattle.std.specs.declared.option.Option.the-variants.{Some, None}
@@ -14,21 +13,19 @@ use Rattle.std.specs.declared.result.Result.the-variants.{Ok, Err}
 use Rattle.model.specs.Meaning.{Meaning, Total}
 use Rattle.ctl.proofs.Judging as judging
 use Rattle.ctl.proofs.Looking.{free-where-decided}
-use Rattle.ctl.specs.Claims.{Decides-once}
 use Rattle.ctl.specs.Formula.{Formula}
 use Rattle.ctl.specs.States.{decided-from}
-use Rattle.ctl.specs.Verdict.{Decided, Verdict-is}
-use Rattle.ctl.specs.declared.Verdict.{Verdict}
+use Rattle.ctl.specs.Verdict.{Decided}
 use Rattle.ctl.specs.declared.Verdict.the-variants.{Undecided}
 use Rattle.guarantee.specs.Calls.{Call, Answer}
 use Rattle.guarantee.specs.Claims.{Every-run-is-guaranteed}
 use Rattle.guarantee.specs.Faults.{number}
-use Rattle.guarantee.specs.Law.{Event, listed, laid-in, Rule-under, Each, Numbered, Truthful, Said, Decided-once, Refused-for-looks, Answering, Guarantee}
+use Rattle.guarantee.specs.Law.{Event, listed, laid-in, Rule-under, Each, Numbered, Truthful, Said, Decided-once, Refused-for-looks, Answering}
 use Rattle.guarantee.specs.Limits.{most-states, most-bound}
 use Rattle.guarantee.specs.Rights.{All-right}
 use Rattle.guarantee.specs.Runs.{Step, Run, none, next}
-use Rattle.guarantee.specs.States.{State, opened, Entry, looks-at}
-use Rattle.guarantee.specs.Tries.{Laid, laid, Try, Stands-for, Told, told}
+use Rattle.guarantee.specs.States.{State, opened, Entry}
+use Rattle.guarantee.specs.Tries.{Laid, laid, Try, Told, told}
 use Rattle.guarantee.specs.declared.answer.Tried.{Tried}
 use Rattle.guarantee.specs.declared.fault.RosterFault.{RosterFault}
 use Rattle.guarantee.proofs.Listing.{some-is, none-some}

@@ -1,7 +1,7 @@
 -- A settle is the tries that it makes: from bound 0 up to one that gives a verdict, which comes by the count of states.
 use mathlib.Core.List.{List, [], _∷_, List·Memᴰ, List·Memᴰ·cases-cons, List·Memᴰ·not-nil}
 use mathlib.Core.Logic.{_⊎_, inl, inr}
-use mathlib.Core.Path.{_≡_, refl, sym, _∙_, ap, ap₂, subst}
+use mathlib.Core.Path.{_≡_, refl, sym, _∙_, ap, subst}
 use Prim.Native.Nat.{ℕ, zero, suc, _+_, _<_, _≤_}
 use native.Mathlib.Decide.{decLt}
 use native.Mathlib.Omega.{arith}
@@ -19,14 +19,13 @@ use Rattle.ctl.specs.Verdict.{Decided}
 use Rattle.ctl.specs.declared.Verdict.{Verdict}
 use Rattle.ctl.specs.declared.Verdict.the-variants.{Holds, Fails, Undecided}
 use Rattle.guarantee.specs.Faults.{number}
-use Rattle.guarantee.specs.Limits.{most-states, most-bound}
+use Rattle.guarantee.specs.Limits.{most-states}
 use Rattle.guarantee.specs.Rights.{All-right}
-use Rattle.guarantee.specs.States.{Entry, Settling, looks-at, try-entry, entries-after, settle-by, settle-on, settle-from}
+use Rattle.guarantee.specs.States.{Entry, Settling, try-entry, entries-after, settle-by, settle-on, settle-from}
 use Rattle.guarantee.specs.Tries.{Try, Climbs, decides, goes-on, passes-over, Wants-looks}
 use Rattle.guarantee.specs.declared.answer.Settled.{Settled}
 use Rattle.guarantee.specs.declared.answer.Tried.{Tried}
 use Rattle.guarantee.specs.declared.fault.RosterFault.{RosterFault}
-use Rattle.guarantee.specs.declared.fault.RosterFault.the-variants.{Looks}
 use Rattle.guarantee.proofs.Trying.{Judges, formulas, try-is-right, entries-after-are-right, try-keeps-formulas, entry-at}
 
 -- by the count of states every rule is decided

@@ -1,11 +1,10 @@
 -- One call on an open roster: the records stay right, a rule is laid under the next number, verdicts told are true, tries are fair.
-use mathlib.Core.List.{List, [], _∷_, _++_, List·Memᴰ, List·Memᴰ·cases-cons, List·Memᴰ·not-nil, List·Memᴰ·eq-of-singleton, map-append}
-use mathlib.Core.Logic.{_⊎_, inl, inr}
+use mathlib.Core.List.{List, [], _∷_, _++_, List·Memᴰ, List·Memᴰ·not-nil, List·Memᴰ·eq-of-singleton, map-append}
 use mathlib.Core.Path.{_≡_, refl, sym, _∙_, ap, ap₂, subst}
-use Prim.Native.Nat.{ℕ, zero, suc, _+_, _≤_}
+use Prim.Native.Nat.{ℕ, suc, _≤_}
 use native.Mathlib.Omega.{arith}
 use native.Mathlib.Nat.{zero-add}
-use lib.ListN.{length, length-map}
+use lib.ListN.{length-map}
 use Rattle.std.specs.Finite.{nth}
 use Rattle.std.specs.declared.option.Option.{Option}
 use Rattle.std.specs.declared.option.Option.the-variants.{Some, None}
@@ -22,13 +21,12 @@ use Rattle.guarantee.specs.Calls.{Call, lay, try, settle, standing, path, Answ
 use Rattle.guarantee.specs.Limits.{most-states}
 use Rattle.guarantee.specs.Rights.{All-right}
 use Rattle.guarantee.specs.Runs.{Step, lays, tries, settles, stands, writes}
-use Rattle.guarantee.specs.States.{State, opened, Entry, fresh-entry, Settling, lay-fault, Lays-by, Reads-as, lay-answer, lay-after, try-entry, entries-after, whole-settle, settle-entry, settle-entries, standing-entry}
-use Rattle.guarantee.specs.Tries.{both-there, laid, Try, Stands-for, lay-none, try-itself, settle-climbs, settle-refused, standing-none, path-none, Climbs, Told, verdict-recorded, verdict-in, told}
+use Rattle.guarantee.specs.States.{State, opened, Entry, fresh-entry, lay-fault, Lays-by, Reads-as, lay-answer, lay-after, try-entry, entries-after, whole-settle, settle-entry, settle-entries, standing-entry}
+use Rattle.guarantee.specs.Tries.{both-there, laid, Try, Stands-for, lay-none, try-itself, settle-climbs, settle-refused, standing-none, path-none, Told, verdict-recorded, told}
 use Rattle.guarantee.specs.declared.answer.Settled.{Settled}
 use Rattle.guarantee.specs.declared.answer.Tried.{Tried}
 use Rattle.guarantee.specs.declared.fault.RosterFault.{RosterFault}
 use Rattle.guarantee.specs.declared.record.Found.{Found}
-use Rattle.guarantee.specs.declared.record.Record.{Record}
 use Rattle.guarantee.proofs.Listing.{some-is, none-some}
 use Rattle.guarantee.proofs.Numbering.{Grown}
 use Rattle.guarantee.proofs.Settling.{Climbed}

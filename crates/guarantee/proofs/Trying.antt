@@ -18,9 +18,10 @@ use Rattle.ctl.specs.Decision.{verdict-at}
 use Rattle.ctl.specs.Formula.{Formula}
 use Rattle.ctl.specs.declared.Verdict.{Verdict}
 use Rattle.guarantee.specs.Limits.{most-bound}
+use Rattle.guarantee.specs.Looks.{looks-at}
 use Rattle.guarantee.specs.Records.{known-at}
 use Rattle.guarantee.specs.Rights.{Right, All-right}
-use Rattle.guarantee.specs.States.{Entry, fresh-entry, looks-at, judged, try-entry, with-note, noted-in, entries-after}
+use Rattle.guarantee.specs.States.{Entry, fresh-entry, judged, try-entry, with-note, noted-in, entries-after}
 use Rattle.guarantee.specs.declared.answer.Tried.{Tried}
 use Rattle.guarantee.specs.declared.fault.RosterFault.{RosterFault}
 use Rattle.guarantee.specs.declared.fault.RosterFault.the-variants.{Looks, Bound}

@@ -1,27 +1,26 @@
 -- What is proved of rosters as such; each statement is the contract of a function. Assumes nothing.
 use mathlib.Core.Bool.{true}
 use mathlib.Core.List.{List, [], _∷_}
-use mathlib.Core.Logic.{_⊎_}
 use mathlib.Core.Path.{_≡_}
 use Prim.Native.Nat.{ℕ, _<_, _≤_}
-use lib.ListN.{length}
 use Rattle.std.specs.Finite.{nth}
 use Rattle.std.specs.declared.option.Option.the-variants.{Some, None}
+use Rattle.std.specs.declared.result.Result.{Result}
 use Rattle.std.specs.declared.result.Result.the-variants.{Ok, Err}
 use Rattle.model.specs.Meaning.{Meaning, Starts, Total, guarded}
 use Rattle.ctl.specs.Formula.{Formula, literal}
 use Rattle.ctl.specs.States.{decided-from}
 use Rattle.ctl.specs.Verdict.{Decided, Verdict-is}
 use Rattle.ctl.specs.Worked.{single}
-use Rattle.ctl.specs.declared.Verdict.{Verdict}
 use Rattle.ctl.specs.declared.Verdict.the-variants.{Holds, Undecided}
 use Rattle.rule.specs.Grammar.{Means}
-use Rattle.guarantee.specs.Calls.{Call, lay, try, settle, Answer, to-lay, to-try, to-settle}
+use Rattle.guarantee.specs.Calls.{Call, lay, try, settle, Answer, to-lay, to-try, to-settle, to-path}
 use Rattle.guarantee.specs.Law.{Guarantee}
 use Rattle.guarantee.specs.Limits.{most-states, most-bound}
+use Rattle.guarantee.specs.Looks.{looks-at}
 use Rattle.guarantee.specs.Rights.{All-right}
 use Rattle.guarantee.specs.Runs.{Step, Run}
-use Rattle.guarantee.specs.States.{State, blank, opened, Entry, looks-at, open-fault, just-opened, settle-answer, path-fault, Shows-recorded}
+use Rattle.guarantee.specs.States.{State, blank, opened, Entry, open-fault, just-opened, settle-answer, path-fault, Shows-recorded}
 use Rattle.guarantee.specs.declared.answer.Settled.{Settled}
 use Rattle.guarantee.specs.declared.fault.RosterFault.{RosterFault}
 
@@ -84,3 +83,19 @@ Settle-ends = (m : Meaning) → Total m → m .count ≤ most-states → (es : L
 abbrev pub A-path-is-there : Type 0
 A-path-is-there = (m : Meaning) → Total m → (s : ℕ) → Starts m s ≡ true → (es : List Entry) → All-right m es
     → (i k limit room : ℕ) → path-fault (opened m es) i k limit room ≡ None → (l : List ℕ) × Shows-recorded (opened m es) i k l
+
+-- ---- that the calls have answers, and which
+
+-- every list of calls on a roster that open did not refuse has answers
+abbrev pub Every-list-is-answered : Type 0
+Every-list-is-answered = (m : Meaning) → Total m → open-fault blank m ≡ None
+    → (calls : List Call) → (answers : List Answer) × (s : State) × Run (just-opened m) calls answers s
+
+-- the same answer, but that the states which path writes are left open
+pub data Alike : Answer → Answer → Type 0 where
+  equal : {a : Answer} → Alike a a
+  paths : {r : Result ℕ RosterFault} {buffer buffer′ : List ℕ} → Alike (to-path r buffer) (to-path r buffer′)
+
+-- a call on a roster has one answer and leaves one roster
+abbrev pub Answers-are-fixed : Type 0
+Answers-are-fixed = (s : State) (c : Call) (a b : Answer) (t u : State) → Step s c a t → Step s c b u → Alike a b × (t ≡ u)

@@ -16,7 +16,7 @@ use Rattle.ctl.specs.declared.Verdict.the-variants.{Undecided}
 use Rattle.rule.specs.Grammar.{Means as Grammar-means, Lawful}
 use Rattle.guarantee.specs.Calls.{Call, Answer}
 use Rattle.guarantee.specs.Limits.{most-bound}
-use Rattle.guarantee.specs.States.{looks-at}
+use Rattle.guarantee.specs.Looks.{looks-at}
 use Rattle.guarantee.specs.Tries.{Laid, laid, Try, Wants-looks, Stands-for, Told, told}
 use Rattle.guarantee.specs.declared.answer.Tried.{Tried}
 use Rattle.guarantee.specs.declared.fault.RosterFault.{RosterFault}

@@ -3,6 +3,7 @@ pub mod Claims
 pub mod Faults
 pub mod Law
 pub mod Limits
+pub mod Looks
 pub mod Records
 pub mod Rights
 pub mod Runs

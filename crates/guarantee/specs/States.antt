@@ -11,11 +11,9 @@ use Rattle.std.specs.declared.option.Option.the-variants.{Some, None}
 use Rattle.std.specs.declared.result.Result.{Result}
 use Rattle.std.specs.declared.result.Result.the-variants.{Ok, Err}
 use Rattle.model.specs.Meaning.{Meaning, Starts, guarded}
-use Rattle.ctl.specs.Cost.{cost-at}
 use Rattle.ctl.specs.Decision.{any-below, verdict-at}
 use Rattle.ctl.specs.Formula.{Formula, constant, literal, join, path, negation}
 use Rattle.ctl.specs.KPath.{Witness}
-use Rattle.ctl.specs.States.{states-that-count}
 use Rattle.ctl.specs.Truth.{upto, True}
 use Rattle.ctl.specs.declared.Quantifier.{Quantifier}
 use Rattle.ctl.specs.declared.Quantifier.the-variants.{All, Exists}
@@ -25,6 +23,7 @@ use Rattle.rule.specs.Faults.{Sized, Earns}
 use Rattle.rule.specs.Grammar.{Means}
 use Rattle.rule.specs.declared.fault.RuleFault.{RuleFault}
 use Rattle.guarantee.specs.Limits.{most-states, most-rules, most-bound}
+use Rattle.guarantee.specs.Looks.{looks-at}
 use Rattle.guarantee.specs.Records.{no-record, known-at, found-by, noted}
 use Rattle.guarantee.specs.declared.answer.Settled.{Settled}
 use Rattle.guarantee.specs.declared.answer.Tried.{Tried}
@@ -41,10 +40,6 @@ pub record Entry : Type 0 where
 pub data State : Type 0 where
   blank : State
   opened : Meaning → List Entry → State
-
--- what a rule costs on a model at a bound
-abbrev pub looks-at : Meaning → Formula → ℕ → ℕ
-looks-at m f k = cost-at m (states-that-count m) f k
 
 -- ---- open
 
@@ -100,11 +95,12 @@ abbrev pub lay-after : State → Result Formula RuleFault → State
 lay-after s (Ok f) = with-rule s f
 lay-after s (Err e) = s
 
--- lay answers a and leaves s′; it is refused before it reads, or by what it reads
+-- with its refusal before it reads, if there is one; else it answers by what it reads
 abbrev pub Lays-by : Option RosterFault → State → List ℕ → Result ℕ RosterFault → State → Type 0
 Lays-by (Some e) s text a s′ = (a ≡ Err e) × (s′ ≡ s)
 Lays-by None s text a s′ = (r : Result Formula RuleFault) × Reads-as text r × (a ≡ lay-answer s r) × (s′ ≡ lay-after s r)
 
+-- lay of a text answers a and leaves s′
 abbrev pub Lays : State → List ℕ → Result ℕ RosterFault → State → Type 0
 Lays s text a s′ = Lays-by (lay-fault s) s text a s′
 
@@ -121,6 +117,7 @@ abbrev pub try-entry : Meaning → Option Entry → ℕ → ℕ → Result Tried
 try-entry m None k limit = Err NotLaid
 try-entry m (Some e) k limit = cond (leb k most-bound) (judged m (e .formula) k limit (known-at (e .said) k)) (Err Bound)
 
+-- what a try of rule i at bound k with this limit answers
 abbrev pub try-answer : State → ℕ → ℕ → ℕ → Result Tried RosterFault
 try-answer blank i k limit = Err Blank
 try-answer (opened m es) i k limit = try-entry m (nth es i) k limit
@@ -135,10 +132,12 @@ noted-in es i k e (Some v) a = es
 noted-in es i k e None (Ok t) = set es i (with-note e k (t .verdict))
 noted-in es i k e None (Err x) = es
 
+-- the entries after a try of rule i at bound k with the answer a
 abbrev pub entries-after : List Entry → ℕ → ℕ → Option Entry → Result Tried RosterFault → List Entry
 entries-after es i k None a = es
 entries-after es i k (Some e) a = noted-in es i k e (known-at (e .said) k) a
 
+-- the roster after a try
 abbrev pub try-after : State → ℕ → ℕ → ℕ → State
 try-after blank i k limit = blank
 try-after (opened m es) i k limit = opened m (entries-after es i k (nth es i) (try-entry m (nth es i) k limit))
@@ -175,28 +174,34 @@ settle-from m i limit (suc left) es k looks passed =
 abbrev pub whole-settle : Meaning → List Entry → ℕ → ℕ → Settling
 whole-settle m es i limit = settle-from m i limit (suc (m .count)) es 0 0 0
 
+-- is the rule laid?
 abbrev pub settle-entry : Meaning → List Entry → ℕ → ℕ → Option Entry → Result Settled RosterFault
 settle-entry m es i limit None = Err NotLaid
 settle-entry m es i limit (Some e) = Ok (whole-settle m es i limit .answer)
 
+-- what a settle of rule i with this limit answers
 abbrev pub settle-answer : State → ℕ → ℕ → Result Settled RosterFault
 settle-answer blank i limit = Err Blank
 settle-answer (opened m es) i limit = settle-entry m es i limit (nth es i)
 
+-- the entries after a settle; of no rule, as they were
 abbrev pub settle-entries : Meaning → List Entry → ℕ → ℕ → Option Entry → List Entry
 settle-entries m es i limit None = es
 settle-entries m es i limit (Some e) = whole-settle m es i limit .entries
 
+-- the roster after a settle
 abbrev pub settle-after : State → ℕ → ℕ → State
 settle-after blank i limit = blank
 settle-after (opened m es) i limit = opened m (settle-entries m es i limit (nth es i))
 
 -- ---- standing
 
+-- the record, if the rule is laid
 abbrev pub standing-entry : Option Entry → Result Record RosterFault
 standing-entry None = Err NotLaid
 standing-entry (Some e) = Ok (e .said)
 
+-- what standing answers of rule i
 abbrev pub standing-answer : State → ℕ → Result Record RosterFault
 standing-answer blank i = Err Blank
 standing-answer (opened m es) i = standing-entry (nth es i)
@@ -225,6 +230,7 @@ witness-fault m f k limit room None = Some NoVerdict
 witness-fault m f k limit room (Some v) =
     cond (root-shows f v) (cond (leb (suc k) room) (cond (leb (looks-at m f k) limit) None (Some Looks)) (Some Room)) (Some Root)
 
+-- is the rule laid, is the bound one that may be tried?
 abbrev pub entry-path-fault : Meaning → Option Entry → ℕ → ℕ → ℕ → Option RosterFault
 entry-path-fault m None k limit room = Some NotLaid
 entry-path-fault m (Some e) k limit room =
@@ -254,10 +260,12 @@ Shows m f k Holds l = Shown-from m (λ s. Starts m s ≡ true) f k l
 Shows m f k Fails l = Shown-from m (λ s. (Starts m s ≡ true) × True m (negation f) (upto k) s) (negation f) k l
 Shows m f k Undecided l = ⊥
 
+-- l shows the verdict that was found
 abbrev pub Shows-found : Meaning → Formula → ℕ → Option Verdict → List ℕ → Type 0
 Shows-found m f k None l = ⊥
 Shows-found m f k (Some v) l = Shows m f k v l
 
+-- l shows the verdict that the entry has at or below k
 abbrev pub Entry-shows : Meaning → Option Entry → ℕ → List ℕ → Type 0
 Entry-shows m None k l = ⊥
 Entry-shows m (Some e) k l = Shows-found m (e .formula) k (found-by (e .said .found) k) l

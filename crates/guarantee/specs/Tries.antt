@@ -48,6 +48,7 @@ number-in (to-settle a) = None
 number-in (to-standing a) = None
 number-in (to-path a buffer) = None
 
+-- the rule that a call with this answer laid, if it laid one
 abbrev pub laid : Call → Answer → Option Laid
 laid c a = both-there (λ t n. record { number = n; text = t }) (text-in c) (number-in a)
 
@@ -121,5 +122,6 @@ verdict-in (to-standing (Ok r)) = verdict-recorded (r .found)
 verdict-in (to-standing (Err e)) = None
 verdict-in (to-path a buffer) = None
 
+-- the verdict that a call with this answer told, if it told one
 abbrev pub told : Call → Answer → Option Told
 told c a = both-there (λ i v. record { rule = i; verdict = v }) (rule-in c) (verdict-in a)

@@ -1,5 +1,5 @@
 // What is proved of every list of calls. Each function's contract is a theorem; the body does nothing.
-ghost use Rattle.guarantee.specs.Claims.{Every-run-is-guaranteed, Every-opened-run-is-guaranteed, Hollow-rosters-are-ruled-out, A-wrong-verdict-is-ruled-out, Records-stay-right, Settle-ends, A-path-is-there};
+ghost use Rattle.guarantee.specs.Claims.{Every-run-is-guaranteed, Every-opened-run-is-guaranteed, Hollow-rosters-are-ruled-out, A-wrong-verdict-is-ruled-out, Records-stay-right, Settle-ends, A-path-is-there, Every-list-is-answered, Answers-are-fixed};
 
 // Every list of calls on an open roster with no rule laid has the guarantee.
 pub fn every_run_is_guaranteed()
@@ -34,4 +34,14 @@ pub fn settle_ends()
 // Where path is not refused there is a path to write.
 pub fn a_path_is_there()
     ensures { λ _. ⌜ A-path-is-there ⌝ }
+{}
+
+// Every list of calls has answers.
+pub fn every_list_is_answered()
+    ensures { λ _. ⌜ Every-list-is-answered ⌝ }
+{}
+
+// A call has one answer, but for the states that path writes, and leaves one roster.
+pub fn answers_are_fixed()
+    ensures { λ _. ⌜ Answers-are-fixed ⌝ }
 {}
