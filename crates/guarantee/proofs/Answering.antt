@@ -1,6 +1,7 @@
 -- Every text is read in one way, every call has an answer, and but for the states of a path only one.
 use mathlib.Core.Bool.{true}
 use mathlib.Core.List.{List, [], _∷_, _++_}
+use mathlib.Core.Logic.{Dec·and}
 use mathlib.Core.Path.{_≡_, refl, sym, _∙_, ap, subst}
 use Prim.Native.Nat.{ℕ, suc, _≤_}
 use native.Mathlib.Decide.{decLe}
@@ -32,18 +33,14 @@ use Rattle.guarantee.specs.Runs.{Step, lays, tries, settles, stands, writes, R
 use Rattle.guarantee.specs.States.{State, blank, opened, Entry, open-fault, just-opened, lay-fault, Reads-as, lay-answer, lay-after, Lays-by, Lays, try-answer, try-after, settle-answer, settle-after, standing-answer, path-fault, Shows-recorded, Writes-by, Writes}
 use Rattle.guarantee.specs.declared.fault.RosterFault.{RosterFault}
 use Rattle.guarantee.proofs.Listing.{none-some}
-use Rattle.guarantee.proofs.Opening.{passed, guarded-is-total, opened-is-small, a-path-is-there}
+use Rattle.guarantee.proofs.Opening.{test-passed, guarded-is-total, opened-is-small}
+use Rattle.guarantee.proofs.Showing.{a-path-is-there}
 use Rattle.guarantee.proofs.Stepping.{Stepped, steps}
 
 -- ---- a text is read in one way
 
 dec-sized : (text : List ℕ) → Dec (Sized text)
-dec-sized text = go (decLe 1 (length text)) (decLe (length text) 255)
-  where
-    go : Dec (1 ≤ length text) → Dec (length text ≤ 255) → Dec (Sized text)
-    go (yes a) (yes b) = yes (a, b)
-    go (yes a) (no b) = no (λ s. b (s .1))
-    go (no a) d = no (λ s. a (s .0))
+dec-sized text = Dec·and (decLe 1 (length text)) (decLe (length text) 255)
 
 pub a-reading : (text : List ℕ) → (r : Result Formula RuleFault) × Reads-as text r
 a-reading text = go (dec-sized text) (walk (need []) text) refl
@@ -95,7 +92,7 @@ module _ (m : Meaning) (law : Total m) (small : m .count ≤ most-states) (start
 -- open's last question finds a start, which the kept answers have too
 start-there : (m : Meaning) → open-fault blank m ≡ None → (s : ℕ) × (Starts (guarded m) s ≡ true)
 start-there m h =
-    let any : any-below (Starts m) (m .count) ≡ true = passed _ _ _ (passed (leb (m .count) most-states) _ _ (passed (leb 1 (m .count)) _ _ h .1) .1) .0 in
+    let any : any-below (Starts m) (m .count) ≡ true = test-passed _ _ _ (test-passed (leb (m .count) most-states) _ _ (test-passed (leb 1 (m .count)) _ _ h .1) .1) .0 in
     let x = decides-any (Starts m) (λ s. Starts m s ≡ true) (m .count) (λ s _. decides-yes (Starts m s)) .0 any in
     (x .0, to-both (ltb (x .0) (m .count)) (Starts m (x .0)) (decides-ltb (x .0) (m .count) .1 (x .1)) (x .2))
 

@@ -7,4 +7,5 @@ pub mod Stepping
 pub mod Running
 pub mod Ruling
 pub mod Opening
+pub mod Showing
 pub mod Answering

@@ -1,5 +1,5 @@
 -- The texts laid in a run and the rules of a roster go together, number by number.
-use mathlib.Core.List.{List, [], _∷_, _++_, List·Memᴰ, List·Memᴰ·head, List·Memᴰ·tail, List·Memᴰ·cases-cons, List·Memᴰ·not-nil, append-assoc}
+use mathlib.Core.List.{List, [], _∷_, _++_, List·Memᴰ, List·Memᴰ·head, List·Memᴰ·tail, List·Memᴰ·cases-cons, List·Memᴰ·not-nil, append-assoc, append-nil}
 use mathlib.Core.Logic.{_⊎_, inl, inr}
 use mathlib.Core.Path.{_≡_, refl, sym, _∙_, ap, subst}
 use Prim.Native.Nat.{ℕ, zero, suc, _+_}
@@ -41,11 +41,7 @@ kept-and-one n (x ∷ ls) [] l f h e t = absurd h
 kept-and-one n (x ∷ ls) (g ∷ fs) l f h e t = (h .0, h .1, kept-and-one (suc n) ls fs l f (h .2) (omega arith) t)
 
 pub kept-on : (ls : List Laid) (fs gs : List Formula) (o : Option Laid) → Kept 0 ls fs → Grown o fs gs → Kept 0 (ls ++ listed o) gs
-kept-on ls fs gs None h e = subst (λ xs. Kept 0 xs gs) (sym (append-none ls)) (subst (Kept 0 ls) (sym e) h)
-  where
-    append-none : (xs : List Laid) → xs ++ [] ≡ xs
-    append-none [] = refl
-    append-none (x ∷ xs) = ap (λ ys. x ∷ ys) (append-none xs)
+kept-on ls fs gs None h e = subst (λ xs. Kept 0 xs gs) (sym (append-nil ls)) (subst (Kept 0 ls) (sym e) h)
 kept-on ls fs gs (Some l) h (f, e, n, t) = subst (Kept 0 (ls ++ (l ∷ []))) (sym e) (kept-and-one 0 ls fs l f h (omega arith) t)
 
 -- the rule at a place was laid under its number

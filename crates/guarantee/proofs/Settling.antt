@@ -1,9 +1,10 @@
 -- A settle is the tries that it makes: from bound 0 up to one that gives a verdict, which comes by the count of states.
 use mathlib.Core.List.{List, [], _∷_, List·Memᴰ, List·Memᴰ·cases-cons, List·Memᴰ·not-nil}
 use mathlib.Core.Logic.{_⊎_, inl, inr}
-use mathlib.Core.Path.{_≡_, refl, sym, _∙_, ap, subst}
+use mathlib.Core.Path.{_≡_, refl, sym, _∙_, ap, ap₂, subst}
 use Prim.Native.Nat.{ℕ, zero, suc, _+_, _<_, _≤_}
 use native.Mathlib.Decide.{decLt}
+use native.Mathlib.Nat.{zero-add}
 use native.Mathlib.Omega.{arith}
 use Rattle.std.specs.Finite.{nth}
 use Rattle.std.specs.declared.option.Option.the-variants.{Some}
@@ -21,7 +22,7 @@ use Rattle.ctl.specs.declared.Verdict.the-variants.{Holds, Fails, Undecided}
 use Rattle.guarantee.specs.Faults.{number}
 use Rattle.guarantee.specs.Limits.{most-states}
 use Rattle.guarantee.specs.Rights.{All-right}
-use Rattle.guarantee.specs.States.{Entry, Settling, try-entry, entries-after, settle-by, settle-on, settle-from}
+use Rattle.guarantee.specs.States.{Entry, Settling, try-entry, entries-after, settle-by, settle-on, settle-from, whole-settle}
 use Rattle.guarantee.specs.Tries.{Try, Climbs, decides, goes-on, passes-over, Wants-looks}
 use Rattle.guarantee.specs.declared.answer.Settled.{Settled}
 use Rattle.guarantee.specs.declared.answer.Tried.{Tried}
@@ -162,3 +163,13 @@ module _ (m : Meaning) (law : Total m) (small : m .count ≤ most-states) (i : �
       split : Dec (k < decided-from m) → (k < decided-from m) ⊎ (k ≡ decided-from m)
       split (yes l) = inl l
       split (no n) = inr (omega arith)
+
+  -- all of it, from bound 0
+  pub settles-from-0 : (es : List Entry) → All-right m es → nth (formulas es) i ≡ Some f → Climbed m i f limit es 0 0 0 (whole-settle m es i limit)
+  settles-from-0 es h at-i = settles (suc (m .count)) es 0 0 0 h at-i (omega arith) (omega arith)
+
+-- with nothing counted before, the answer tells the looks and the refusals of these tries
+pub counts-its-own : {m : Meaning} {i : ℕ} {f : Formula} {limit : ℕ} {es : List Entry} {r : Settling} (c : Climbed m i f limit es 0 0 0 r)
+    → r .answer ≡ record { verdict = c .verdict-is; bound = c .bound-is; looks = c .own-looks; passed = c .own-passed }
+counts-its-own c = c .answer-is
+    ∙ ap₂ (λ l p. record { verdict = c .verdict-is; bound = c .bound-is; looks = l; passed = p }) (zero-add (c .own-looks)) (zero-add (c .own-passed))

@@ -1,9 +1,7 @@
 -- One call on an open roster: the records stay right, a rule is laid under the next number, verdicts told are true, tries are fair.
 use mathlib.Core.List.{List, [], _∷_, _++_, List·Memᴰ, List·Memᴰ·not-nil, List·Memᴰ·eq-of-singleton, map-append}
-use mathlib.Core.Path.{_≡_, refl, sym, _∙_, ap, ap₂, subst}
-use Prim.Native.Nat.{ℕ, suc, _≤_}
-use native.Mathlib.Omega.{arith}
-use native.Mathlib.Nat.{zero-add}
+use mathlib.Core.Path.{_≡_, refl, sym, _∙_, ap, subst}
+use Prim.Native.Nat.{ℕ, _≤_}
 use lib.ListN.{length-map}
 use Rattle.std.specs.Finite.{nth}
 use Rattle.std.specs.declared.option.Option.{Option}
@@ -23,14 +21,12 @@ use Rattle.guarantee.specs.Rights.{All-right}
 use Rattle.guarantee.specs.Runs.{Step, lays, tries, settles, stands, writes}
 use Rattle.guarantee.specs.States.{State, opened, Entry, fresh-entry, lay-fault, Lays-by, Reads-as, lay-answer, lay-after, try-entry, entries-after, whole-settle, settle-entry, settle-entries, standing-entry}
 use Rattle.guarantee.specs.Tries.{both-there, laid, Try, Stands-for, lay-none, try-itself, settle-climbs, settle-refused, standing-none, path-none, Told, verdict-recorded, told}
-use Rattle.guarantee.specs.declared.answer.Settled.{Settled}
 use Rattle.guarantee.specs.declared.answer.Tried.{Tried}
 use Rattle.guarantee.specs.declared.fault.RosterFault.{RosterFault}
 use Rattle.guarantee.specs.declared.record.Found.{Found}
 use Rattle.guarantee.proofs.Listing.{some-is, none-some}
 use Rattle.guarantee.proofs.Numbering.{Grown}
-use Rattle.guarantee.proofs.Settling.{Climbed}
-use Rattle.guarantee.proofs.Settling as climbing
+use Rattle.guarantee.proofs.Settling.{settles-from-0, counts-its-own}
 use Rattle.guarantee.proofs.Trying.{Judges, formulas, try-is-right, added-is-right, entries-after-are-right, try-keeps-formulas, formula-at, no-formula-at}
 
 -- a try of a laid rule is judged; a try of another number is not answered
@@ -148,11 +144,8 @@ module _ (m : Meaning) (law : Total m) (es : List Entry) (h : All-right m es) wh
   settle-step small i limit (Some x) q s′ e =
       let f = x .formula in
       let at-i : nth (formulas es) i ≡ Some f = formula-at es i x q in
-      let c : Climbed m i f limit es 0 0 0 (whole-settle m es i limit) = climbing.settles m law small i f limit (suc (m .count)) es 0 0 0 h at-i (omega arith) (omega arith) in
-      let own : Settled = record { verdict = c .verdict-is; bound = c .bound-is; looks = c .own-looks; passed = c .own-passed } in
-      let is : whole-settle m es i limit .answer ≡ own = c .answer-is
-      ∙ ap₂ (λ l p. record { verdict = c .verdict-is; bound = c .bound-is; looks = l; passed = p }) (zero-add (c .own-looks)) (zero-add (c .own-passed)) in
-      subst (λ a. Stepped m es (settle i limit) (to-settle (Ok a)) s′) (sym is) (record {
+      let c = settles-from-0 m law small i f limit es h at-i in
+      subst (λ a. Stepped m es (settle i limit) (to-settle (Ok a)) s′) (sym (counts-its-own c)) (record {
         entries = whole-settle m es i limit .entries;
         state = e;
         right = c .right;
