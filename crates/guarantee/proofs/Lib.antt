@@ -5,6 +5,7 @@ pub mod Settling
 pub mod Numbering
 pub mod Stepping
 pub mod Running
+pub mod Guarding
 pub mod Ruling
 pub mod Opening
 pub mod Showing

@@ -14,6 +14,7 @@ use Rattle.guarantee.specs.Claims.{Every-opened-run-is-guaranteed, Records-sta
 use Rattle.guarantee.specs.Limits.{most-states}
 use Rattle.guarantee.specs.States.{blank, open-fault, settle-entry}
 use Rattle.guarantee.specs.declared.fault.RosterFault.{RosterFault}
+use Rattle.guarantee.proofs.Guarding.{guarantee-alike}
 use Rattle.guarantee.proofs.Listing.{none-some}
 use Rattle.guarantee.proofs.Running.{every-run-is-guaranteed}
 use Rattle.guarantee.proofs.Settling.{ends-decided, settles-from-0, counts-its-own}
@@ -38,7 +39,8 @@ pub opened-is-small : (m : Meaning) → open-fault blank m ≡ None → m .count
 opened-is-small m h = leb-true (m .count) most-states (test-passed _ _ _ (test-passed (leb 1 (m .count)) _ _ h .1) .0)
 
 pub every-opened-run-is-guaranteed : Every-opened-run-is-guaranteed
-every-opened-run-is-guaranteed m law h = every-run-is-guaranteed (guarded m) (guarded-is-total m law) (opened-is-small m h)
+every-opened-run-is-guaranteed m law h calls answers s r =
+    guarantee-alike m calls answers (every-run-is-guaranteed (guarded m) (guarded-is-total m law) (opened-is-small m h) calls answers s r)
 
 pub records-stay-right : Records-stay-right
 records-stay-right m law small es h c a s st = let d = steps m law small es h st in (d .entries, d .state, d .right)

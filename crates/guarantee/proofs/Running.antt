@@ -53,7 +53,8 @@ record Along (m : Meaning) (before : List Event) (cs : List Call) (as′ : List 
   pub rules : List Formula
   pub kept : Kept 0 (laid-in (before ++ events)) rules
 
-each-so : (P Q : List Event → Event → Type 0) → ((before : List Event) (x : Event) → P before x → Q before x) → (before xs : List Event) → Each P before xs → Each Q before xs
+-- what P gives, each event with P gives
+pub each-so : (P Q : List Event → Event → Type 0) → ((before : List Event) (x : Event) → P before x → Q before x) → (before xs : List Event) → Each P before xs → Each Q before xs
 each-so P Q h before [] e = tt
 each-so P Q h before (x ∷ xs) e = (h before x (e .0), each-so P Q h (before ++ (x ∷ [])) xs (e .1))
 

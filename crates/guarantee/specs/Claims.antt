@@ -7,7 +7,7 @@ use Rattle.std.specs.Finite.{nth}
 use Rattle.std.specs.declared.option.Option.the-variants.{Some, None}
 use Rattle.std.specs.declared.result.Result.{Result}
 use Rattle.std.specs.declared.result.Result.the-variants.{Ok, Err}
-use Rattle.model.specs.Meaning.{Meaning, Starts, Total, guarded}
+use Rattle.model.specs.Meaning.{Meaning, Starts, Total}
 use Rattle.ctl.specs.Formula.{Formula, literal}
 use Rattle.ctl.specs.States.{decided-from}
 use Rattle.ctl.specs.Verdict.{Decided, Verdict-is}
@@ -29,10 +29,10 @@ abbrev pub Every-run-is-guaranteed : Type 0
 Every-run-is-guaranteed = (m : Meaning) → Total m → m .count ≤ most-states
     → (calls : List Call) (answers : List Answer) (s : State) → Run (opened m []) calls answers s → Guarantee m calls answers
 
--- so has every list of calls on a roster that open did not refuse, about the answers of its model
+-- so has every list of calls on a roster that open did not refuse, about the model that it was opened on
 abbrev pub Every-opened-run-is-guaranteed : Type 0
 Every-opened-run-is-guaranteed = (m : Meaning) → Total m → open-fault blank m ≡ None
-    → (calls : List Call) (answers : List Answer) (s : State) → Run (just-opened m) calls answers s → Guarantee (guarded m) calls answers
+    → (calls : List Call) (answers : List Answer) (s : State) → Run (just-opened m) calls answers s → Guarantee m calls answers
 
 -- ---- answers that the guarantee rules out
 
