@@ -1,6 +1,6 @@
 -- Hollow rosters and a wrong verdict do not have the guarantee.
 use mathlib.Core.Bool.{true, false≢true}
-use mathlib.Core.List.{List, [], _∷_, _++_, map, List·Memᴰ, List·Memᴰ·head, List·Memᴰ·eq-of-singleton}
+use mathlib.Core.List.{List, [], _∷_, _++_, map, List·Memᴰ, List·Memᴰ·head, List·Memᴰ·tail, List·Memᴰ·eq-of-singleton}
 use mathlib.Core.Path.{_≡_, refl, sym, _∙_, ap, ap₂, subst}
 use Prim.Native.Nat.{ℕ, _<_, _≤_}
 use native.Mathlib.Omega.{arith}
@@ -10,6 +10,7 @@ use Rattle.std.specs.declared.result.Result.the-variants.{Ok, Err}
 use Rattle.model.specs.Meaning.{Meaning}
 use Rattle.ctl.specs.Formula.{Formula, literal}
 use Rattle.ctl.specs.States.{decided-from}
+use Rattle.ctl.specs.Verdict.{Decided}
 use Rattle.ctl.specs.Verdict as verdicts
 use Rattle.ctl.specs.Worked.{single}
 use Rattle.ctl.specs.declared.Verdict.the-variants.{Holds, Undecided}
@@ -17,7 +18,7 @@ use Rattle.rule.specs.Grammar.{Means}
 use Rattle.rule.proofs.Formulas.{one-formula}
 use Rattle.guarantee.specs.Calls.{Call, lay, try, settle, Answer, to-lay, to-try, to-settle}
 use Rattle.guarantee.specs.Claims.{Hollow-rosters-are-ruled-out, A-wrong-verdict-is-ruled-out}
-use Rattle.guarantee.specs.Law.{Event, listed, Rule-under, Each, Numbered, Truthful, Refused-for-looks, Answering, Guarantee}
+use Rattle.guarantee.specs.Law.{Event, listed, laid-in, Rule-under, Each, Numbered, Truthful, Said, Decided-once, Refused-for-looks, Answering, Guarantee}
 use Rattle.guarantee.specs.Limits.{most-bound}
 use Rattle.guarantee.specs.Tries.{laid, Try, Stands-for, try-itself, settle-climbs, Climbs, Told, told}
 use Rattle.guarantee.specs.declared.answer.Settled.{Settled}
@@ -60,10 +61,10 @@ record Second (m : Meaning) (f : Formula) (c : Call) (a : Answer) : Type 0 where
 
 module _ (m : Meaning) (f : Formula) (text : List ℕ) (means : Means text f) where
   -- the rule of a text laid with the answer 0
-  first-under : (x : Event) → x .call ≡ lay text → x .answer ≡ to-lay (Ok 0) → Rule-under (x ∷ []) 0 f
-  first-under x ec ea = record {
+  first-under : (x : Event) (rest : List Event) → x .call ≡ lay text → x .answer ≡ to-lay (Ok 0) → Rule-under (x ∷ rest) 0 f
+  first-under x rest ec ea = record {
     text = text;
-    answered = subst (λ o. List·Memᴰ (record { number = 0; text = text }) (listed o ++ [])) (sym (ap₂ laid ec ea)) (List·Memᴰ·head refl);
+    answered = subst (λ o. List·Memᴰ (record { number = 0; text = text }) (listed o ++ laid-in rest)) (sym (ap₂ laid ec ea)) (List·Memᴰ·head refl);
     means = means;
   }
 
@@ -87,7 +88,7 @@ module _ (m : Meaning) (f : Formula) (text : List ℕ) (means : Means text f) wh
           let ay : y .answer ≡ a = same-head (same-tail ea) in
           record {
             before = x ∷ [];
-            under = first-under x ex ax;
+            under = first-under x [] ex ax;
             only = first-only x ex ax;
             tries = y .tries;
             made = subst (λ b. Stands-for c b (y .tries)) ay (subst (λ d. Stands-for d (y .answer) (y .tries)) ey (y .made));
@@ -103,12 +104,49 @@ module _ (m : Meaning) (f : Formula) (text : List ℕ) (means : Means text f) wh
       let t : Try = record { rule = 0; bound = k; limit = limit; outcome = a } in
       s .answering t f (subst (λ ts. List·Memᴰ t ts) (sym (a-try-is-itself (s .made))) (List·Memᴰ·head refl)) (s .under) le
 
+  -- a try among the tries of an event that is that try
+  itself-among : (y : Event) (k limit : ℕ) (a : Result Tried RosterFault) → y .call ≡ try 0 k limit → y .answer ≡ to-try a
+      → List·Memᴰ (record { rule = 0; bound = k; limit = limit; outcome = a }) (y .tries)
+  itself-among y k limit a ec ea =
+      let made : Stands-for (try 0 k limit) (to-try a) (y .tries) =
+      subst (λ b. Stands-for (try 0 k limit) b (y .tries)) ea (subst (λ d. Stands-for d (y .answer) (y .tries)) ec (y .made)) in
+      subst (λ ts. List·Memᴰ (record { rule = 0; bound = k; limit = limit; outcome = a }) ts) (sym (a-try-is-itself made)) (List·Memᴰ·head refl)
+
+  -- two tries of the rule, the later at no lower bound: a verdict does not change
+  verdict-kept : (k n limit limit′ : ℕ) (t u : Tried) → k ≤ n → Decided (t .verdict)
+      → Guarantee m (lay text ∷ try 0 k limit ∷ try 0 n limit′ ∷ []) (to-lay (Ok 0) ∷ to-try (Ok t) ∷ to-try (Ok u) ∷ []) → u .verdict ≡ t .verdict
+  verdict-kept k n limit limit′ t u le y g = go (g .events) (g .calls-are) (g .answers-are) (g .decided)
+    where
+      kept : (events : List Event) (d : Decided-once m events 0 f) → Said (d .bound) (d .verdict) k (Ok t) → Said (d .bound) (d .verdict) n (Ok u)
+          → u .verdict ≡ t .verdict
+      kept events d a b =
+          let no : k < d .bound → ⊥ = λ l. subst Decided (a .0 l) y in
+          b .1 (omega arith) ∙ sym (a .1 (omega arith))
+
+      go : (xs : List Event) → map (λ x. x .call) xs ≡ lay text ∷ try 0 k limit ∷ try 0 n limit′ ∷ []
+          → map (λ x. x .answer) xs ≡ to-lay (Ok 0) ∷ to-try (Ok t) ∷ to-try (Ok u) ∷ []
+          → ((r : ℕ) (h : Formula) → Rule-under xs r h → Decided-once m xs r h) → u .verdict ≡ t .verdict
+      go [] ec ea d = absurd (not-empty ec)
+      go (x ∷ []) ec ea d = absurd (not-empty (same-tail ec))
+      go (x ∷ y ∷ []) ec ea d = absurd (not-empty (same-tail (same-tail ec)))
+      go (x ∷ y ∷ z ∷ zs) ec ea d =
+          let o = d 0 f (first-under x (y ∷ z ∷ zs) (same-head ec) (same-head ea)) in
+          let ey = same-tail ec in
+          let ay = same-tail ea in
+          kept (x ∷ y ∷ z ∷ zs) o
+          (o .said y (record { rule = 0; bound = k; limit = limit; outcome = Ok t }) (List·Memᴰ·tail (List·Memᴰ·head refl))
+          (itself-among y k limit (Ok t) (same-head ey) (same-head ay)) refl)
+          (o .said z (record { rule = 0; bound = n; limit = limit′; outcome = Ok u }) (List·Memᴰ·tail (List·Memᴰ·tail (List·Memᴰ·head refl)))
+          (itself-among z n limit′ (Ok u) (same-head (same-tail ey)) (same-head (same-tail ay))) refl)
+
 pub hollow-rosters-are-ruled-out : Hollow-rosters-are-ruled-out
 hollow-rosters-are-ruled-out m f = record {
   refusing = λ limit e le text t g. absurd (omega (arith, at-a-try m f text t (decided-from m) limit (Err e) le g .2));
   undecided = λ limit n le text t g.
       at-a-try m f text t (decided-from m) limit (Ok (record { verdict = Undecided; looks = n })) le g (omega arith);
   looks-to-spare = λ k limit e le cheap text t g. absurd (omega (arith, cheap, at-a-try m f text t k limit (Err e) le g .1));
+  changing = λ k n limit limit′ looks looks′ v w le y other text t g.
+      other (verdict-kept m f text t k n limit limit′ (record { verdict = v; looks = looks }) (record { verdict = w; looks = looks′ }) le y g);
   settling-on-nothing = λ limit b n p text t g.
       ends-decided (a-settle-climbs (second m f text t (settle 0 limit) (to-settle (Ok (record { verdict = Undecided; bound = b; looks = n; passed = p }))) g .made));
   another-kind = λ k limit n text t g. no-other-kind (second m f text t (try 0 k limit) (to-lay (Ok n)) g .made);

@@ -12,6 +12,7 @@ use Rattle.ctl.specs.Formula.{Formula, literal}
 use Rattle.ctl.specs.States.{decided-from}
 use Rattle.ctl.specs.Verdict.{Decided, Verdict-is}
 use Rattle.ctl.specs.Worked.{single}
+use Rattle.ctl.specs.declared.Verdict.{Verdict}
 use Rattle.ctl.specs.declared.Verdict.the-variants.{Holds, Undecided}
 use Rattle.rule.specs.Grammar.{Means}
 use Rattle.guarantee.specs.Calls.{Call, lay, try, settle, Answer, to-lay, to-try, to-settle, to-path}
@@ -41,12 +42,16 @@ abbrev pub Ruled-out : Meaning → Formula → Call → Answer → Type 0
 Ruled-out m f c a = (text : List ℕ) → Means text f → Guarantee m (lay text ∷ c ∷ []) (to-lay (Ok 0) ∷ a ∷ []) → ⊥
 
 -- on every model and for every rule: refusing a try at the count of states or leaving it undecided, refusing one with looks to
--- spare, settling on nothing, a try answered as no try, a first rule with another number than 0, a call with no answer
+-- spare, changing a verdict, settling on nothing, a try answered as no try, a first rule with another number than 0, a call with
+-- no answer
 pub record Rules-out (m : Meaning) (f : Formula) : Type 0 where
   pub refusing : (limit : ℕ) (e : RosterFault) → decided-from m ≤ most-bound → Ruled-out m f (try 0 (decided-from m) limit) (to-try (Err e))
   pub undecided : (limit n : ℕ) → decided-from m ≤ most-bound
       → Ruled-out m f (try 0 (decided-from m) limit) (to-try (Ok (record { verdict = Undecided; looks = n })))
   pub looks-to-spare : (k limit : ℕ) (e : RosterFault) → k ≤ most-bound → looks-at m f k ≤ limit → Ruled-out m f (try 0 k limit) (to-try (Err e))
+  pub changing : (k n limit limit′ looks looks′ : ℕ) (v w : Verdict) → k ≤ n → Decided v → (w ≡ v → ⊥) → (text : List ℕ) → Means text f
+      → Guarantee m (lay text ∷ try 0 k limit ∷ try 0 n limit′ ∷ [])
+      (to-lay (Ok 0) ∷ to-try (Ok (record { verdict = v; looks = looks })) ∷ to-try (Ok (record { verdict = w; looks = looks′ })) ∷ []) → ⊥
   pub settling-on-nothing : (limit b n p : ℕ)
       → Ruled-out m f (settle 0 limit) (to-settle (Ok (record { verdict = Undecided; bound = b; looks = n; passed = p })))
   pub another-kind : (k limit n : ℕ) → Ruled-out m f (try 0 k limit) (to-lay (Ok n))

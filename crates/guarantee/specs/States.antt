@@ -43,7 +43,7 @@ pub data State : Type 0 where
 
 -- ---- open
 
--- has the model 1 to 64 states, and is one of them a start?
+-- has the model a state and no more than a roster takes, and is one of them a start?
 abbrev pub model-fault : Meaning → Option RosterFault
 model-fault m =
     cond (leb 1 (m .count))
@@ -58,6 +58,15 @@ open-fault (opened n es) m = Some Opened
 -- the roster on a model with no rule laid
 abbrev pub just-opened : Meaning → State
 just-opened m = opened (guarded m) []
+
+-- a refusal leaves the roster as it was
+abbrev pub opened-by : Option RosterFault → State → Meaning → State
+opened-by (Some e) s m = s
+opened-by None s m = just-opened m
+
+-- the roster after open
+abbrev pub open-after : State → Meaning → State
+open-after s m = opened-by (open-fault s m) s m
 
 -- ---- lay
 
