@@ -22,7 +22,7 @@ use Rattle.rule.proofs.Earned.{earned-is-unlawful, unlawful-earns, one-fault}
 use Rattle.rule.proofs.Formulas.{one-formula}
 use Rattle.rule.proofs.Reaches.{stop-is-unlawful}
 use Rattle.rule.specs.Faults.{Sized}
-use Rattle.rule.specs.Walk.{Walk, walk, need, done, stopped}
+use Rattle.rule.proofs.Walk.{Walk, walk, need, done, stopped}
 use Rattle.rule.specs.declared.fault.RuleFault.{RuleFault}
 use Rattle.rule.specs.declared.fault.RuleFault.the-variants.{Length}
 use Rattle.guarantee.specs.Calls.{Call, lay, try, settle, standing, path, Answer, to-lay, to-try, to-settle, to-standing, to-path}
