@@ -1,0 +1,3 @@
+pub mod Bits
+pub mod LowestBit
+pub mod Words
