@@ -1,0 +1,2 @@
+// The verdict on a rule at a bound, within a limit of looks.
+pub mod judged;
