@@ -1,0 +1,3 @@
+pub mod Lassos
+pub mod RootParts
+pub mod Trail
