@@ -1,0 +1,4 @@
+pub mod Beginning
+pub mod Negating
+pub mod Places
+pub mod Standings
