@@ -1,14 +1,17 @@
 -- The rules laid, by their numbers, and the entries that they stand for.
-use mathlib.Core.List.{List, [], _∷_, map}
+use mathlib.Core.List.{List, [], _∷_, _++_, map}
 use mathlib.Core.Path.{_≡_, refl, sym, _∙_, ap}
 use native.Mathlib.Omega.{arith}
 use Prim.Native.Nat.{ℕ, zero, suc, _<_}
 use lib.ListN.{length, getD, set}
+use Rattle.std.proofs.shelf.Lists.{map-append}
 use Rattle.std.specs.Finite.{nth}
 use Rattle.std.specs.Options.{mapped}
 use Rattle.std.specs.declared.option.Option.{Option}
 use Rattle.std.specs.declared.option.Option.the-variants.{Some, None}
-use Rattle.guarantee.specs.States.{Entry}
+use Rattle.rule.specs.Tree.{formula}
+use Rattle.guarantee.specs.Records.{no-record}
+use Rattle.guarantee.specs.States.{Entry, fresh-entry}
 use Rattle.guarantee.specs.declared.record.Record.{Record}
 use Rattle.guarantee.proofs.Listing.{some-is, none-some}
 use Rattle.roster.specs.Entries.{entry-of, entries-of}
@@ -55,3 +58,9 @@ pub entries-set : (xs : List Laid) (i : ℕ) (x : Laid) → entries-of (set xs i
 entries-set [] i x = refl
 entries-set (y ∷ ys) zero x = refl
 entries-set (y ∷ ys) (suc i) x = ap (λ es. entry-of y ∷ es) (entries-set ys i x)
+
+-- a rule added with an empty record
+pub entries-added : (xs ys : List Laid) (x : Laid) → x .said ≡ no-record → ys ≡ xs ++ (x ∷ [])
+    → entries-of ys ≡ entries-of xs ++ (fresh-entry (formula (x .trees .rule)) ∷ [])
+entries-added xs ys x fresh e =
+    ap entries-of e ∙ map-append entry-of xs (x ∷ []) ∙ ap (λ r. entries-of xs ++ (record { formula = formula (x .trees .rule); said = r } ∷ [])) fresh

@@ -1,6 +1,8 @@
 // A roster: up to sixteen rules laid on one kept model, each with its record.
+mod attempt;
 pub mod book;
 pub mod laid;
 mod open;
 mod records;
+mod settle;
 mod standing;
