@@ -38,11 +38,14 @@ module _ (m : Meaning) (law : Total m) (i k limit : ℕ) where
       subst P (sym so) (right-after es (nth es i) refl h)
 
 -- a rule added, or none for want of memory
-pub an-addition-keeps : (m : Meaning) → Total m → (xs ys : List Laid) (x : Laid) (r : Result (Unit {0}) AllocError) → length xs < most-rules → x .said ≡ no-record
-    → All-right m (entries-of xs) → Cases r (λ _. ys ≡ xs ++ (x ∷ [])) (λ _. ys ≡ xs) → (length ys ≤ most-rules) × All-right m (entries-of ys)
-an-addition-keeps m law xs ys x (Ok u) l fresh h e =
-    let P : List Entry → Type 0 = λ es. All-right m es in
-    let more : length ys ≡ length xs + 1 = ap length e ∙ length-append xs (x ∷ []) in
-    (omega (arith, more), subst P (sym (entries-added xs ys x fresh e)) (added-is-right m law (entries-of xs) (formula (x .trees .rule)) h))
-an-addition-keeps m law xs ys x (Err u) l fresh h e =
-    let P : List Entry → Type 0 = λ es. All-right m es in (omega (arith, ap length e), subst P (sym (ap entries-of e)) h)
+module _ (xs ys : List Laid) (x : Laid) where
+  pub an-addition-stays-few : (r : Result (Unit {0}) AllocError) → length xs < most-rules → Cases r (λ _. ys ≡ xs ++ (x ∷ [])) (λ _. ys ≡ xs) → length ys ≤ most-rules
+  an-addition-stays-few (Ok u) l e = let more : length ys ≡ length xs + 1 = ap length e ∙ length-append xs (x ∷ []) in omega (arith, more)
+  an-addition-stays-few (Err u) l e = omega (arith, ap length e)
+
+  pub an-addition-keeps-right : (m : Meaning) → Total m → (r : Result (Unit {0}) AllocError) → x .said ≡ no-record → All-right m (entries-of xs)
+      → Cases r (λ _. ys ≡ xs ++ (x ∷ [])) (λ _. ys ≡ xs) → All-right m (entries-of ys)
+  an-addition-keeps-right m law (Ok u) fresh h e =
+      let P : List Entry → Type 0 = λ es. All-right m es in
+      subst P (sym (entries-added xs ys x fresh e)) (added-is-right m law (entries-of xs) (formula (x .trees .rule)) h)
+  an-addition-keeps-right m law (Err u) fresh h e = let P : List Entry → Type 0 = λ es. All-right m es in subst P (sym (ap entries-of e)) h

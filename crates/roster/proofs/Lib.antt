@@ -1,6 +1,7 @@
 pub mod Beginning
 pub mod Climbing
 pub mod Keeping
+pub mod Laying
 pub mod Negating
 pub mod OnBooks
 pub mod Places

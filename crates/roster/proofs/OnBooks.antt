@@ -1,6 +1,7 @@
 -- What a call does with the book is what it does with the roster.
 use mathlib.Core.List.{List}
-use mathlib.Core.Path.{_≡_, refl, sym, _∙_, ap, ap₂}
+use mathlib.Core.Logic.{inl}
+use mathlib.Core.Path.{_≡_, refl, sym, _∙_, ap, ap₂, subst}
 use Prim.Native.Nat.{ℕ}
 use Rattle.std.specs.Finite.{nth}
 use Rattle.std.specs.declared.option.Option.{Option}
@@ -12,6 +13,7 @@ use Rattle.guarantee.specs.declared.answer.Settled.{Settled}
 use Rattle.guarantee.specs.declared.answer.Tried.{Tried}
 use Rattle.guarantee.specs.declared.fault.RosterFault.{RosterFault}
 use Rattle.guarantee.specs.declared.fault.RosterFault.the-variants.{Blank}
+use Rattle.roster.specs.Lays.{Lays-or-wants-memory}
 use Rattle.roster.specs.Books.{model-in, laid-in, book-state}
 use Rattle.roster.specs.declared.book.Book.{Book}
 
@@ -45,3 +47,13 @@ module _ (o : Option Book) (i limit : ℕ) where
     a ∙ ap (λ x. settle-answer (book-state x) i limit) (sym e),
     ap₂ opened m t ∙ ap (λ x. settle-after (book-state x) i limit) (sym e),
   )
+
+module _ (o : Option Book) (text : List ℕ) where
+  pub lays-on-none : o ≡ None → Lays-or-wants-memory (book-state o) text (Err Blank) (book-state o)
+  lays-on-none e =
+      let P : Option Book → Type 0 = λ x. Lays-or-wants-memory (book-state x) text (Err Blank) (book-state x) in subst P (sym e) (inl (refl, refl))
+
+  pub lays-on-book : (b b′ : Book) (r : Result ℕ RosterFault) → o ≡ Some b
+      → Lays-or-wants-memory (opened (model-in b) (laid-in b)) text r (opened (model-in b′) (laid-in b′))
+      → Lays-or-wants-memory (book-state o) text r (book-state (Some b′))
+  lays-on-book b b′ r e h = let P : Option Book → Type 0 = λ x. Lays-or-wants-memory (book-state x) text r (book-state (Some b′)) in subst P (sym e) h

@@ -1,4 +1,5 @@
 pub mod Books
 pub mod Entries
+pub mod Lays
 pub mod Opens
 pub mod Plain

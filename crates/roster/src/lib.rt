@@ -2,6 +2,7 @@
 mod attempt;
 pub mod book;
 pub mod laid;
+mod lay;
 mod open;
 mod records;
 mod settle;
