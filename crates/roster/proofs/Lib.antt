@@ -5,5 +5,6 @@ pub mod Laying
 pub mod Negating
 pub mod OnBooks
 pub mod Places
+pub mod Refusing
 pub mod Standings
 pub mod Ways

@@ -22,7 +22,7 @@ pub const HIGHEST: u16 = 255;
 
 impl Book {
     // The verdict on rule i at a bound by evaluation, or none where it costs more than the limit.
-    fn evaluate(&self, i: usize, bound: u16, limit: u32) -> Option<Judgement>
+    pub(crate) fn evaluate(&self, i: usize, bound: u16, limit: u32) -> Option<Judgement>
         requires { ⌜ i < length (vec-items (now self .records .items)) ⌝ }
         ensures judged { λ r. ⌜ ((x : Laid) → nth (vec-items (now (self .entry) .records .items)) i ≡ Some x → Judged (model-in (now (self .entry))) (formula (x .trees .rule)) bound limit r) ⌝ }
         ensures within { λ r. ⌜ Within-limit limit r ⌝ }

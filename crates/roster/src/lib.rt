@@ -4,6 +4,7 @@ pub mod book;
 pub mod laid;
 mod lay;
 mod open;
+mod path;
 mod records;
 mod settle;
 mod standing;
