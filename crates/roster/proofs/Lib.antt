@@ -6,5 +6,7 @@ pub mod Negating
 pub mod OnBooks
 pub mod Places
 pub mod Refusing
+pub mod Showings
 pub mod Standings
+pub mod Starting
 pub mod Ways

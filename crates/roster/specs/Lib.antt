@@ -3,3 +3,4 @@ pub mod Entries
 pub mod Lays
 pub mod Opens
 pub mod Plain
+pub mod Showing
