@@ -1,4 +1,6 @@
 // The channel file: rows, then rules, then a line that says where the rules begin; and its listing.
+#![tactic(auto)]
+
 pub mod cause;
 pub mod fault;
 pub mod line;

@@ -152,15 +152,15 @@ const FILES: [File; 34] = [
 const FILLER: u8 = 7;
 
 // The file gets this line, and what stands behind it in the buffer is left alone.
-fn gets(rt: &impl Abort, heap: Global, file: &[u8], line: &str) -> Result<(), Fail> {
+fn gets(rt: &impl Abort, heap: Global, file: &str, line: &str) -> Result<(), Fail> {
     let mut buffer = [FILLER; 1100];
-    let length = match listing(heap, file, &mut buffer) {
+    let length = match listing(heap, file.as_bytes(), &mut buffer) {
         Ok(n) => n,
         Err(refusal) => refusal.length,
     };
-    assert!(rt; &buffer[0..length] == line.as_bytes());
+    assert!(rt; &buffer[0..length] == line.as_bytes(), "{file}");
     for b in buffer[length..].iter() {
-        assert!(rt; *b == FILLER);
+        assert!(rt; *b == FILLER, "{file}");
     }
     Ok(())
 }
@@ -198,7 +198,7 @@ fn padded(heap: Global, last: usize) -> Result<String, AllocError> {
 #[test]
 fn each_file_gets_its_line(rt: HostRuntime) -> Result<(), Fail> {
     for file in FILES.iter() {
-        gets(&rt, rt.alloc(), file.text.as_bytes(), file.line).note(file.text)?;
+        gets(&rt, rt.alloc(), file.text, file.line)?;
     }
     Ok(())
 }
@@ -208,11 +208,11 @@ fn a_file_may_have_16384_bytes_and_no_more(rt: HostRuntime) -> Result<(), Fail> 
     let heap = rt.alloc();
     let most = padded(heap, 120)?;
     assert_eq!(rt; most.len(), 16384);
-    gets(&rt, heap, most.as_bytes(), "states 64 rules 12\n")?;
+    gets(&rt, heap, most.as_str(), "states 64 rules 12\n")?;
     gets(
         &rt,
         heap,
-        padded(heap, 121)?.as_bytes(),
+        padded(heap, 121)?.as_str(),
         "refused 27 file 0\n",
     )
 }
@@ -222,10 +222,10 @@ fn a_rule_line_may_have_255_bytes_and_no_more(rt: HostRuntime) -> Result<(), Fai
     let heap = rt.alloc();
     let longest = rule_line(heap, 255)?;
     let taken = format!(in heap; "*>0\n{longest}@4\n")?;
-    gets(&rt, heap, taken.as_bytes(), "states 1 rules 1\n")?;
+    gets(&rt, heap, taken.as_str(), "states 1 rules 1\n")?;
     let longer = rule_line(heap, 256)?;
     let refused = format!(in heap; "*>0\n{longer}@4\n")?;
-    gets(&rt, heap, refused.as_bytes(), "refused 6 rule 4\n")
+    gets(&rt, heap, refused.as_str(), "refused 6 rule 4\n")
 }
 
 #[test]

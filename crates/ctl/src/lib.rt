@@ -1,6 +1,8 @@
 // Computation tree logic on a channel's model: what a rule means, and what is proved of that meaning.
 //
 // The operators and the verdict are enums of the code, which the definitions in specs/ use too.
+#![tactic(auto)]
+
 pub mod looks;
 pub mod setwise;
 pub mod truth;

@@ -1,4 +1,6 @@
 // Truth of a rule at a bound, as a set of states, at its exact cost in looks. Nothing allocates.
+#![tactic(auto)]
+
 pub mod parts;
 pub mod paths;
 pub mod sets_of_parts;

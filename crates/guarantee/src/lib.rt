@@ -2,6 +2,8 @@
 //
 // The values that its calls answer with are types of the code; specs/ has the state of a roster,
 // what each call makes of it, and the guarantee, a law over calls and answers.
+#![tactic(auto)]
+
 pub mod answer;
 pub mod claims;
 pub mod fault;

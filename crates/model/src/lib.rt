@@ -2,6 +2,8 @@
 //
 // Four questions are one trait, `Model`; the law is a trait above it, `TotalModel`. Code that only
 // reads a table asks for the first, code that relies on paths going on asks for the second.
+#![tactic(auto)]
+
 ghost use Rattle.std.specs.Prelude.{◌≡◌};
 ghost use Rattle.model.specs.Claims.{AnswersFixTheMeaning, OutsideIsNo};
 ghost use Rattle.model.specs.Meaning.{Meaning, Starts, Moves, Carries, Total};

@@ -1,4 +1,6 @@
 // rostercheck: a channel file on standard input, its listing on standard output.
+#![tactic(auto)]
+
 use anyhow::anyhow;
 use channel::listing::{LEAST_BUFFER, listing};
 use std::io::{Read, Write};

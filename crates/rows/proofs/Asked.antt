@@ -8,7 +8,7 @@ use Rattle.std.proofs.lemmas.Bool.Decides.{same_from_decides, Decides-by_or, Dec
 use Rattle.rows.specs.Rows.{has}
 use Rattle.rowtext.specs.declared.row.Row.{Row}
 
-pub has_contains : (xs : List ℕ) (x : ℕ) (r : Bool) → IsAnyAnswer (λ y t. Decides t (y ≡ x)) xs r → r ≡ has xs x
+pub has_contains : (xs : List ℕ) (x : ℕ) (r : Bool) → IsAnyAnswer (λ y t. eqb y x ≡ t) xs r → r ≡ has xs x
 has_contains xs x r h =
     same_from_decides r (has xs x) (contains_decides eqb Decides-eqb xs x r h) (Decides-by_or (λ y. eqb y x) (λ y. y ≡ x) (λ ys. has ys x) (λ y. Decides-eqb y x) refl (λ _ _. refl) xs)
 

@@ -3,9 +3,9 @@ ghost use Rattle.rows.specs.Rows.{rows_meaning};
 ghost use Rattle.rows.specs.GoingOn;
 
 use crate::model::RowModel;
-use model::{Model, TotalModel};
+use model::{Model as ChannelModel, TotalModel};
 
-pub impl Model for RowModel as RowModelAnswers {
+impl ChannelModel for RowModel {
     ghost meaning = { λ m. rows_meaning m.rows.items };
 
     fn count(&self) -> u16 {

@@ -1,5 +1,7 @@
 // Rule texts and what becomes of each: the table that the tests run the reader over. The reader's
 // contract is proved; these show its meaning by example, and that memory never runs out on them.
+#![tactic(auto)]
+
 use std::alloc::{AllocError, Global};
 
 // A text, and what it is refused with, by number and place; or nothing, if it is taken.

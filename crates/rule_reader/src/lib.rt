@@ -1,5 +1,7 @@
 // Reads rule text: a text is taken only if the grammar has it, and a refusal points at the byte where no
 // rule can go on.
+#![tactic(auto)]
+
 ghost use Rattle.std.specs.Prelude.{◌≡◌, ◌⊎◌, MatchResult};
 ghost use Rattle.rule.specs.Faults.{Sized, Taken, Earns};
 ghost use Rattle.rule.specs.Grammar.{Means};

@@ -2,6 +2,8 @@
 //
 // The listing follows the definitions as directly as code can: all k-paths are written out and asked, all simple paths are
 // written out and counted. It shares nothing with the evaluator but the rule tree and the model's four questions.
+#![tactic(auto)]
+
 ghost use Rattle.std.specs.Prelude.{◌≡◌};
 ghost use Rattle.ctl.specs.Formula.{negation as negated};
 ghost use Rattle.rule.specs.Tree.{formula};

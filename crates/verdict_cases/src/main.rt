@@ -1,4 +1,6 @@
 // Judges four rules on a small channel at each bound, and prints verdict and looks; the expected output is worked out by hand.
+#![tactic(auto)]
+
 use anyhow::anyhow;
 use ctl::{Binary, Connective, Quantifier, Unary, Verdict};
 use model::Model;

@@ -7,4 +7,4 @@ pub returns : goal.returns
 returns c =
     let line = refused_line c.args.number c.args.fault in
     let written : IfOk c.format.result (λ s. string_bytes s ≡ line) = search rules in
-    line_made c.format.result line (refused_fits c.args.number c.args.fault (omega arith) (omega (arith, c.place-place.type-inv, c.place-place.ensures))) written
+    line_made c.format.result line (refused_fits c.args.number c.args.fault (omega arith) (omega (arith, c.place-place.type_inv, c.place-place.ensures))) written

@@ -15,16 +15,16 @@ returns-then-offset-at c =
     let told = c.in-Some.ensures in
     bad_offset (fits_sized file c.if-file-eq0.false (omega arith)) (past_the_sign file c.in-Some.found.0 c.in-Some.found.1 told.0 told.1 c.if-offset-at.true)
 
-pub returns-then-not-is-line-front : goal.returns-then-not-is-line-front
-returns-then-not-is-line-front c =
+pub returns-then-not-is_line_front : goal.returns-then-not-is_line_front
+returns-then-not-is_line_front c =
     let file = c.args.file.now in
     let told = c.in-Some.ensures in
-    bad_offset (fits_sized file c.if-file-eq0.false (omega arith)) (no_front file c.in-Some.found.0 c.in-Some.found.1 told.1 (sym c.if-not-is-line-front.ensures))
+    bad_offset (fits_sized file c.if-file-eq0.false (omega arith)) (no_front file c.in-Some.found.0 c.in-Some.found.1 told.1 (sym c.if-not-is_line_front.ensures))
 
 pub returns : goal.returns
 returns c =
     let file = c.args.file.now in
     let told = c.in-Some.ensures in (
       fits_sized file c.if-file-eq0.false (omega arith),
-      cut_there file c.in-Some.found.0 c.in-Some.found.1 told.0 told.1 c.if-offset-at.false (sym c.if-not-is-line-front.ensures),
+      cut_there file c.in-Some.found.0 c.in-Some.found.1 told.0 told.1 c.if-offset-at.false (sym c.if-not-is_line_front.ensures),
     )

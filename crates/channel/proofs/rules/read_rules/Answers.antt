@@ -7,19 +7,19 @@ pub loop-at-preserved : goal.loop-at-preserved
 loop-at-preserved c =
     let part = c.args.rules.now in
     let so = c.loop-at.invariant in
-    let s = c.piece-end-end.ensures in
-    let told = c.in-ok-read-line.ensures in
-    one_more part c.loop-at.at c.piece-end-end.result c.loop-at.laid so s (ends_inside part c.loop-at.at c.piece-end-end.result c.requires.closed c.loop-at-test.true s) told.0 told.1 told.2
+    let s = c.piece_end-end.ensures in
+    let told = c.in_ok-read_line.ensures in
+    one_more part c.loop-at.at c.piece_end-end.result c.loop-at.laid so s (ends_inside part c.loop-at.at c.piece_end-end.result c.requires.closed c.loop-at-test.true s) told.0 told.1 told.2
 
-pub returns-in-err-read-line : goal.returns-in-err-read-line
-returns-in-err-read-line c =
-    let p = err_from_is_err_and c.from-residual.result c.from-residual.ensures.1 in
+pub returns-in_err-read_line : goal.returns-in_err-read_line
+returns-in_err-read_line c =
+    let p = err_from_is_err_and c.from_residual.result c.from_residual.ensures.1 in
     let part = c.args.rules.now in
     let so = c.loop-at.invariant in
-    let s = c.piece-end-end.ensures in
-    let told = c.in-err-read-line.ensures in
-    let inside = ends_inside part c.loop-at.at c.piece-end-end.result c.requires.closed c.loop-at-test.true s in
-    rw (p.1, p.2) (⊎_elim inl (λ b. inr (refused_there part c.loop-at.at c.piece-end-end.result c.loop-at.laid so s inside c.args.offset _ _ told.0 b)) told.1)
+    let s = c.piece_end-end.ensures in
+    let told = c.in_err-read_line.ensures in
+    let inside = ends_inside part c.loop-at.at c.piece_end-end.result c.requires.closed c.loop-at-test.true s in
+    rw (p.1, p.2) (⊎_elim inl (λ b. inr (refused_there part c.loop-at.at c.piece_end-end.result c.loop-at.laid so s inside c.args.offset _ _ told.0 b)) told.1)
 
 pub returns : goal.returns
 returns c =

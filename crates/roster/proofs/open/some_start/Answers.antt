@@ -3,4 +3,4 @@ use Rattle.roster.proofs.Beginning.{start_anywhere}
 use Rattle.roster.proofs.open.some_start.Goals as goal
 
 pub returns : goal.returns
-returns c = c.starts-in.ensures ∙ start_anywhere c.args.table.now c.all.result c.all.ensures
+returns c = c.starts_in.ensures ∙ start_anywhere c.args.table.now c.all.result c.all.ensures

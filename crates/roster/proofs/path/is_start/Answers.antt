@@ -4,7 +4,7 @@ use Rattle.roster.proofs.path.is_start.Goals as goal
 
 pub returns : goal.returns
 returns c =
-    c.starts-in.ensures
+    c.starts_in.ensures
     ∙ only_start c.args.table.now c.insert.new.self c.args.s c.requires
     (inserted_here c.none-only.result c.insert.new.self c.args.s c.insert.ensures)
     (inserted_elsewhere c.none-only.result c.insert.new.self c.args.s c.none-only.ensures c.insert.ensures)

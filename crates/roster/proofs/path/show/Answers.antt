@@ -6,7 +6,7 @@ use Rattle.sets.specs.Sets.{member}
 use Rattle.table.specs.Kept.{kept}
 use Rattle.roster.proofs.Showings.{shown_here, no_start_no_path, no_witness_no_path, no_path_anywhere}
 use Rattle.roster.proofs.path.show.Goals as goal
-use Rattle.roster.proofs.path.show.Goals.{then-is-start+else-witness, else-is-start}
+use Rattle.roster.proofs.path.show.Goals.{then-is_start+else-witness, else-is_start}
 
 pub loop-s-init : goal.loop-s-init
 loop-s-init c = (refl, λ u l p. absurd (omega arith))
@@ -16,7 +16,7 @@ returns-then-witness c =
     record {
       shown = λ _.
           shown_here (kept c.args.table.now) (part_formula c.args.part.now) c.args.k c.loop-s.s c.args.out.now c.loop-s.out c.witness.new.out
-          (sym c.if-is-start.ensures) c.loop-s.invariant.0 c.loop-s.invariant.1 (c.if-witness.ensures.written refl);
+          (sym c.if-is_start.ensures) c.loop-s.invariant.0 c.loop-s.invariant.1 (c.if-witness.ensures.written refl);
       untouched = λ e. absurd (false≢true (sym e));
       none = λ e. absurd (false≢true (sym e));
     }
@@ -32,16 +32,16 @@ returns c =
 
 pub loop-s-preserved : goal.loop-s-preserved
 loop-s-preserved c =
-    elim c.if-is-start.branch [
-      | then-is-start+else-witness w ↦ (
+    elim c.if-is_start.branch [
+      | then-is_start+else-witness w ↦ (
         w.out-is ∙ w.if-witness.ensures.untouched refl ∙ c.loop-s.invariant.0,
         below_more _ _ c.loop-s.invariant.1
             (no_witness_no_path (kept c.args.table.now) (part_formula c.args.part.now) c.args.k (member c.counted-counted.result) (states_that_count (kept c.args.table.now)) c.loop-s.s
             (length c.loop-s.out) c.args.limit c.counted-counted.ensures (omega (arith, c.requires.room, c.loop-s.auto.out)) c.requires.cheap (w.if-witness.ensures.none refl)),
       )
-      | else-is-start w ↦ (
+      | else-is_start w ↦ (
         w.out-is ∙ c.loop-s.invariant.0,
         below_more _ _ c.loop-s.invariant.1
-            (no_start_no_path (kept c.args.table.now) (part_formula c.args.part.now) c.args.k c.loop-s.s (sym w.if-is-start.ensures)),
+            (no_start_no_path (kept c.args.table.now) (part_formula c.args.part.now) c.args.k c.loop-s.s (sym w.if-is_start.ensures)),
       )
     ]

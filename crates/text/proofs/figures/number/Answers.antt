@@ -9,11 +9,11 @@ returns-then-piece-eq0 c = λ t l w. empty_not c.args.piece.now (omega arith) t 
 pub returns-then-piece-eq48 : goal.returns-then-piece-eq48
 returns-then-piece-eq48 c = λ t l w. leading_not c.args.piece.now (omega arith) (omega arith) t (omega arith) w
 
-pub returns-in-default : goal.returns-in-default
-returns-in-default c = λ t l w. no_figure c.args.piece.now c.loop-b.b-index c.loop-b.n (get_or c.args.piece.now c.loop-b.b-index 0) (omega arith) refl (λ x y. omega arith) c.loop-b.invariant.1 t (omega arith) w
+pub returns-in_default : goal.returns-in_default
+returns-in_default c = λ t l w. no_figure c.args.piece.now c.loop-b.b-index c.loop-b.n (get_or c.args.piece.now c.loop-b.b-index 0) (omega arith) refl (λ x y. omega arith) c.loop-b.invariant.1 t (omega arith) w
 
-pub returns-in-default·2 : goal.returns-in-default·2
-returns-in-default·2 c = λ t l w. no_figure c.args.piece.now c.loop-b.b-index c.loop-b.n (get_or c.args.piece.now c.loop-b.b-index 0) (omega arith) refl (λ x y. omega arith) c.loop-b.invariant.1 t (omega arith) w
+pub returns-in_default-2 : goal.returns-in_default-2
+returns-in_default-2 c = λ t l w. no_figure c.args.piece.now c.loop-b.b-index c.loop-b.n (get_or c.args.piece.now c.loop-b.b-index 0) (omega arith) refl (λ x y. omega arith) c.loop-b.invariant.1 t (omega arith) w
 
 pub returns-then-n-top : goal.returns-then-n-top
 returns-then-n-top c =

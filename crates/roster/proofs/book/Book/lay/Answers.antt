@@ -15,18 +15,17 @@ pub returns-in-Err : goal.returns-in-Err
 returns-in-Err c =
     lay_refused (model_in c.args.self.now) (vec_items c.args.self.now.records.items) c.args.text.now (omega (arith, c.len-number.ensures)) c.in-Err.fault c.in-Err.ensures
 
-pub invariant-of-self : goal.invariant-of-self
-invariant-of-self c =
+pub invariant_of-self : goal.invariant_of-self
+invariant_of-self c =
     let t = c.args.self.now.table in
     let xs = vec_items c.args.self.now.records.items in
     let ys = vec_items c.add.new.self.items in
-    let x : Laid = record { trees = c.in-Ok.trees; said = c.new-said.result } in (
-      c.args.self.now.started,
-      (
-        an_addition_stays_few xs ys x c.add.result (omega (arith, c.len-number.ensures)) c.add.ensures,
-        (∥∥₁_map c.args.self.now.right (λ h. an_addition_keeps_right xs ys x (kept t) (kept_total t) c.add.result c.new-said.ensures h c.add.ensures), tt),
-      ),
-    )
+    let x : Laid = record { trees = c.in-Ok.trees; said = c.new-said.result } in
+    record {
+      started = c.args.self.now.started;
+      few = an_addition_stays_few xs ys x c.add.result (omega (arith, c.len-number.ensures)) c.add.ensures;
+      right = ∥∥₁_map c.args.self.now.right (λ h. an_addition_keeps_right xs ys x (kept t) (kept_total t) c.add.result c.new-said.ensures h c.add.ensures);
+    }
 
 pub returns-in-Ok-add : goal.returns-in-Ok-add
 returns-in-Ok-add c =

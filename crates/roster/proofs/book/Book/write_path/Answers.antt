@@ -10,8 +10,8 @@ use Rattle.roster.specs.Books.{model_in}
 use Rattle.roster.specs.Showing.{showing, RootShown, NoRootShown}
 use Rattle.roster.specs.declared.laid.Laid.{Laid}
 
-pub show-root-requires : goal.show-root-requires
-show-root-requires c =
+pub show_root-requires : goal.show_root-requires
+show_root-requires c =
     let m = model_in c.args.self.now in
     let y = c.index.result.now in
     let here = nth_there (vec_items c.args.self.now.records.items) c.args.i y y c.requires.laid c.index.ensures in
@@ -28,9 +28,9 @@ returns c =
     let is : (x : Laid) → _ → formula c.showing-tree.result.now ≡ showing (formula x.trees.rule) =
     λ x q. c.showing-tree.ensures ∙ ap (λ (z : Laid). showing (formula z.trees.rule)) (c.index.ensures ∙ (nth_inside (vec_items c.args.self.now.records.items) c.args.i x q).1 y)
     in
-    let Shown : Formula → Type 0 = λ f. RootShown m f c.args.bound c.args.buffer.now c.show-root.new.out in
+    let Shown : Formula → Type 0 = λ f. RootShown m f c.args.bound c.args.buffer.now c.show_root.new.out in
     let None-there : Formula → Type 0 = λ f. NoRootShown m f c.args.bound in
     record {
-      shown = λ x q e. subst Shown (is x q) (c.show-root.ensures.shown e);
-      none = λ x q e. subst None-there (is x q) (c.show-root.ensures.none e);
+      shown = λ x q e. subst Shown (is x q) (c.show_root.ensures.shown e);
+      none = λ x q e. subst None-there (is x q) (c.show_root.ensures.none e);
     }

@@ -6,4 +6,4 @@ returns-in-None c = refused_blank c.args.self.now.book c.args.i c.args.bound c.a
 
 pub returns-in-Some : goal.returns-in-Some
 returns-in-Some c =
-    refused_by_book c.args.self.now.book c.args.i c.args.bound c.args.limit c.args.room c.in-Some.book c.path-refusal.result c.in-Some.is c.path-refusal.ensures
+    refused_by_book c.args.self.now.book c.args.i c.args.bound c.args.limit c.args.room c.in-Some.book c.path_refusal.result c.in-Some.is c.path_refusal.ensures

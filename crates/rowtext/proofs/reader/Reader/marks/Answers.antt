@@ -5,14 +5,14 @@ use Rattle.rowtext.proofs.LineForms.{least_next_above, least_next_push, mark_mor
 use Rattle.rowtext.specs.Faults.{least_next}
 use Rattle.rowtext.specs.Format.{Rising}
 use Rattle.rowtext.proofs.reader.Reader.marks.Goals as goal
-use Rattle.rowtext.proofs.reader.Reader.marks.Goals.{in-default-b-via-then-b-lt97, in-default-b-via-in-97-to-122+else-low-b, in-default-b-via-else-b-lt97+else-b-lt123}
+use Rattle.rowtext.proofs.reader.Reader.marks.Goals.{in_default-b-via-then-b-lt97, in_default-b-via-in-97-to-122+else-low-b, in_default-b-via-else-b-lt97+else-b-lt123}
 
 pub loop-b-preserved : goal.loop-b-preserved
 loop-b-preserved c =
     let inv = c.loop-b.invariant in
     let ms = vec_items c.loop-b.marks in
     let b = c.in-Some.b in
-    let p : vec_items c.push.new.self ≡ ms ++ b ∷ [] = pushed (b ∷ []) refl c.in-ok-push.was c.push.ensures.items in (
+    let p : vec_items c.push.new.self ≡ ms ++ b ∷ [] = pushed (b ∷ []) refl c.in_ok-push-in-97-to-122.was c.push.ensures.items in (
       inv.0,
       mark_more _ ms _ _ b inv.1 c.in-Some.ensures.1 ∙ ap (λ xs. xs ++ drop (c.loop-b.self.at + 1) c.loop-b.self.text.now) (sym p),
       subst (Rising 97 123) (sym p) (rising_push 97 123 ms b inv.2 (omega (arith, inv.3, c.if-low-b.true)) (omega arith)),
@@ -20,10 +20,10 @@ loop-b-preserved c =
       omega (arith, inv.4, ap length p ∙ length_push ms b),
     )
 
-pub returns-in-default-b : goal.returns-in-default-b
-returns-in-default-b c =
+pub returns-in_default-b : goal.returns-in_default-b
+returns-in_default-b c =
     let inv = c.loop-b.invariant in
     let b = c.in-Some.b in
     let low = c.loop-b.low in
-    let stuck : low ≤ b → b < 123 → ⊥ = λ x y. elim c.in-default-b.branch [ in-default-b-via-then-b-lt97 w ↦ omega (arith, least_next_above 97 123 (vec_items c.loop-b.marks) inv.2, inv.3) | in-default-b-via-in-97-to-122+else-low-b w ↦ omega (arith, w.if-low-b) | in-default-b-via-else-b-lt97+else-b-lt123 w ↦ omega arith ] in
+    let stuck : low ≤ b → b < 123 → ⊥ = λ x y. elim c.in_default-b.branch [ in_default-b-via-then-b-lt97 w ↦ omega (arith, least_next_above 97 123 (vec_items c.loop-b.marks) inv.2, inv.3) | in_default-b-via-in-97-to-122+else-low-b w ↦ omega (arith, w.if-low-b) | in_default-b-via-else-b-lt97+else-b-lt123 w ↦ omega arith ] in
     record { same = inv.0; took = inr (marks_stuck _ _ _ _ _ (vec_items c.loop-b.marks) low b inv.1 c.in-Some.ensures.1 inv.2 inv.3 inv.4 (λ e. omega arith) stuck) }

@@ -6,8 +6,8 @@ use Rattle.rule_reader.specs.Halts.{Clear}
 use Rattle.rule.specs.declared.sign.Sign.TheVariants.{And}
 use Rattle.rule_reader.proofs.reader.Reader.+path_part_rule_term_unit.Given as goal
 
-abbrev pub decreases-path-part : goal.decreases-path-part
-decreases-path-part l = 3 * (length (bytes l.self.now) - l.self.now.at)
+abbrev pub decreases-path_part : goal.decreases-path_part
+decreases-path_part l = 3 * (length (bytes l.self.now) - l.self.now.at)
 
 abbrev pub decreases-unit : goal.decreases-unit
 decreases-unit l = 3 * (length (bytes l.self.now) - l.self.now.at)

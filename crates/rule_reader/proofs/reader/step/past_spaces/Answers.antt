@@ -10,12 +10,12 @@ loop-at-init c = (omega arith, omega arith, none)
 pub loop-at-preserved : goal.loop-at-preserved
 loop-at-preserved c = (omega arith, omega arith, spaces_go_on _ _ c.loop-at-test.true c.loop-at.invariant.2 (sym c.in-Space.ensures))
 
-pub returns-in-default : goal.returns-in-default
-returns-in-default c = record {
+pub returns-in_default : goal.returns-in_default
+returns-in_default c = record {
   onward = c.loop-at.invariant.0;
   within = c.loop-at.invariant.1;
   spaces = c.loop-at.invariant.2;
-  solid = λ e. let f = first_at_place _ _ c.loop-at-test.true in let s = c.sign-of.ensures in c.in-default.not-Space cc;
+  solid = λ e. let f = first_at_place _ _ c.loop-at-test.true in let s = c.sign_of.ensures in c.in_default.not-Space cc;
 }
 
 pub returns : goal.returns

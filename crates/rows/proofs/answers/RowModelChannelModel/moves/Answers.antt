@@ -2,7 +2,7 @@ use Rattle.std.proofs.Common.{◌≡◌, true, false, ltb, map, length, get_or, 
 use Rattle.std.proofs.lemmas.Bool.{lt-ltb, ltb-true}
 use Rattle.rows.proofs.Asked.{asked, guarded, has_contains}
 use Rattle.rows.specs.Rows.{has}
-use Rattle.rows.proofs.answers.RowModelAnswers.moves.Goals as goal
+use Rattle.rows.proofs.answers.RowModelChannelModel.moves.Goals as goal
 
 pub returns-in-Some : goal.returns-in-Some
 returns-in-Some c =

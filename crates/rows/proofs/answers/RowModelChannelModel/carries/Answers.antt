@@ -3,7 +3,7 @@ use Rattle.model.specs.Meaning.{letter}
 use Rattle.std.proofs.lemmas.Bool.{and_from, le-leb, ltb-true}
 use Rattle.rows.proofs.Asked.{asked, guarded, has_contains}
 use Rattle.rows.specs.Rows.{has}
-use Rattle.rows.proofs.answers.RowModelAnswers.carries.Goals as goal
+use Rattle.rows.proofs.answers.RowModelChannelModel.carries.Goals as goal
 
 pub returns-in-Some : goal.returns-in-Some
 returns-in-Some c =

@@ -1,7 +1,7 @@
 use Rattle.std.proofs.Common.{length, vec_items, sym}
 use Rattle.std.proofs.lemmas.Bool.{ltb-true}
 use Rattle.rows.proofs.Asked.{asked}
-use Rattle.rows.proofs.answers.RowModelAnswers.starts.Goals as goal
+use Rattle.rows.proofs.answers.RowModelChannelModel.starts.Goals as goal
 
 pub returns-in-Some : goal.returns-in-Some
 returns-in-Some c =
