@@ -13,7 +13,7 @@ use Rattle.channel.proofs.LastLine.{one_cut, one_last}
 use Rattle.channel.proofs.Lined.{no_lines, one_refusal, same_lines}
 use Rattle.channel.specs.Claims.{ChannelFileHasOneAnswer}
 use Rattle.channel.specs.Faults.{BadOffset, ContentEarns, FileEarns, bad_size, bad_last_line, bad_offset, bad_content, bad_rows, no_start, bad_rules}
-use Rattle.channel.specs.Files.{line_front, sized, Last, Cut, LawfulFile}
+use Rattle.channel.specs.Files.{line_front, sized, Cut, LawfulFile}
 use Rattle.channel.specs.RuleLines.{RuleLines, cause_number, cause_place, RulesEarn}
 use Rattle.channel.specs.Steps.{Deserved}
 use Rattle.channel.specs.declared.fault.FileFault.{FileFault}

@@ -1,5 +1,5 @@
 -- The rules part of a channel file: a rule to a line, at most sixteen, and how a line is refused. Assumes nothing.
-use Rattle.std.specs.Prelude.{◌≡◌, ℕ, ◌+◌, ◌<◌, ◌≤◌, List, [], ◌∷◌, ◌++◌, length, Some, None, Option}
+use Rattle.std.specs.Prelude.{◌≡◌, ℕ, ◌+◌, ◌<◌, ◌≤◌, List, [], ◌∷◌, ◌++◌, length, Some, Option}
 use Rattle.std.specs.List.{flat_map, AllByRecursion}
 use Rattle.rule.specs.Faults as rule
 use Rattle.rule.specs.Grammar.{Lawful}

@@ -1,8 +1,7 @@
 -- What the guards of the answers give.
-use Rattle.std.proofs.Common.{◌≡◌, ℕ, ◌≤◌, Bool, true, false, ◌&&◌, ltb, refl, ap}
+use Rattle.std.proofs.Common.{◌≡◌, Bool, true, false, ◌&&◌, refl}
 use Rattle.std.proofs.lemmas.Bool.{le-ltb}
-use Rattle.model.specs.Claims.{OutsideIsNo, AnswerAlike, AnswersFixTheMeaning}
-use Rattle.model.specs.Meaning.{Meaning, guarded}
+use Rattle.model.specs.Claims.{OutsideIsNo, AnswersFixTheMeaning}
 
 no_second : (a b : Bool) → b ≡ false → (a && b) ≡ false
 no_second true b e = e

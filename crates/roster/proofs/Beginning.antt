@@ -1,5 +1,5 @@
 -- What a model must be for a roster to open on it, and what is refused.
-use Rattle.std.proofs.Common.{◌≡◌, ℕ, ◌<◌, ◌≤◌, Bool, true, false, cond, leb, ◌⊎◌, List, [], Some, None, Ok, Err, Option, Result, sym, refl, ap, ◌∙◌, subst, inl, inr, arith}
+use Rattle.std.proofs.Common.{◌≡◌, Bool, true, false, cond, leb, List, [], Some, None, Ok, Err, Option, sym, refl, ap, ◌∙◌, subst, inl, inr, arith}
 use mathlib.Core.Bool.{false≢true}
 use Rattle.std.proofs.lemmas.Bool.{le-leb, lt-leb}
 use Rattle.model.specs.Meaning.{Meaning, Starts, Total, guarded}
@@ -17,7 +17,7 @@ use Rattle.guarantee.specs.States.{State, blank, opened, Entry, model_fault, jus
 use Rattle.guarantee.specs.declared.fault.RosterFault.{RosterFault}
 use Rattle.guarantee.specs.declared.fault.RosterFault.TheVariants.{Opened, Size, NoStart}
 use Rattle.roster.specs.Books.{book_state}
-use Rattle.roster.specs.Opens.{Opens, OpensBy}
+use Rattle.roster.specs.Opens.{Opens}
 use Rattle.roster.specs.declared.book.Book.{Book}
 
 and_true : (b : Bool) → and_then b (λ _. true) ≡ b

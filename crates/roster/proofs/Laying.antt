@@ -1,5 +1,5 @@
 -- The ways through a lay.
-use Rattle.std.proofs.Common.{◌≡◌, ℕ, ◌<◌, ◌≤◌, true, false, ltb, ◌⊎◌, List, [], ◌∷◌, ◌++◌, length, Ok, Err, Result, sym, refl, ap, ◌∙◌, subst, inl, inr, arith}
+use Rattle.std.proofs.Common.{◌≡◌, ℕ, ◌<◌, ◌≤◌, true, false, ltb, ◌⊎◌, List, [], ◌∷◌, ◌++◌, length, Ok, Err, sym, refl, ap, ◌∙◌, inl, inr, arith}
 use Rattle.std.proofs.lemmas.List.{length-map}
 use Rattle.std.proofs.lemmas.Bool.{lt-ltb, le-ltb}
 use Rattle.model.specs.Meaning.{Meaning}
@@ -9,7 +9,7 @@ use Rattle.rule.specs.declared.fault.RuleFault.{RuleFault}
 use Rattle.rule.specs.declared.fault.RuleFault.TheVariants.{Length, NoSign, Misplaced, Unfinished, Memory as NoMemory}
 use Rattle.guarantee.specs.Limits.{most_rules}
 use Rattle.guarantee.specs.Records.{no_record}
-use Rattle.guarantee.specs.States.{State, opened, ReadsAs}
+use Rattle.guarantee.specs.States.{opened, ReadsAs}
 use Rattle.guarantee.specs.declared.fault.RosterFault.{RosterFault}
 use Rattle.guarantee.specs.declared.fault.RosterFault.TheVariants.{Full, Rule, Memory}
 use Rattle.roster.proofs.Places.{entries_added}

@@ -5,7 +5,7 @@ use Rattle.std.specs.List.{slice_get}
 use Rattle.std.specs.Option.{option_map}
 use Rattle.rule.specs.Tree.{formula}
 use Rattle.guarantee.specs.Records.{no_record}
-use Rattle.guarantee.specs.States.{Entry, fresh_entry}
+use Rattle.guarantee.specs.States.{fresh_entry}
 use Rattle.guarantee.specs.declared.record.Record.{Record}
 use Rattle.guarantee.proofs.Listing.{some_is, none_some}
 use Rattle.roster.specs.Entries.{entry_of, entries_of}

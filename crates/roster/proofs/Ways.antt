@@ -1,11 +1,10 @@
 -- The ways through a try.
-use Rattle.std.proofs.Common.{◌≡◌, ℕ, ◌<◌, ◌≤◌, Bool, true, false, cond, leb, List, get_or, set, Some, None, Ok, Err, Option, Result, sym, refl, ap, ◌∙◌, subst, arith}
+use Rattle.std.proofs.Common.{◌≡◌, ℕ, ◌<◌, ◌≤◌, true, false, leb, List, get_or, set, Some, None, Ok, Err, Option, Result, sym, refl, ap, ◌∙◌, arith}
 use Rattle.std.proofs.lemmas.Bool.{le-leb, lt-leb}
 use Rattle.std.specs.List.{slice_get}
 use Rattle.std.specs.Option.{option_map}
 use Rattle.model.specs.Meaning.{Meaning}
 use Rattle.ctl.specs.Decision.{verdict_at}
-use Rattle.ctl.specs.Formula.{Formula}
 use Rattle.ctl.specs.declared.Verdict.{Verdict}
 use Rattle.rule.specs.Tree.{formula}
 use Rattle.verdict.specs.Judging.{Judged, WithinLimit}
@@ -13,14 +12,14 @@ use Rattle.verdict.specs.declared.judged.Judgement.{Judgement}
 use Rattle.guarantee.specs.Limits.{most_bound}
 use Rattle.guarantee.specs.Looks.{looks_at}
 use Rattle.guarantee.specs.Records.{known_at, noted}
-use Rattle.guarantee.specs.States.{opened, Entry, judged, try_entry, noted_in, entries_after, try_after, with_note}
+use Rattle.guarantee.specs.States.{opened, Entry, try_entry, noted_in, entries_after, try_after}
 use Rattle.guarantee.specs.declared.answer.Tried.{Tried}
 use Rattle.guarantee.specs.declared.fault.RosterFault.{RosterFault}
 use Rattle.guarantee.specs.declared.fault.RosterFault.TheVariants.{NotLaid, Bound, Looks}
 use Rattle.guarantee.specs.declared.record.Record.{Record}
 use Rattle.roster.specs.Entries.{entry_of, entries_of}
 use Rattle.roster.specs.declared.laid.Laid.{Laid}
-use Rattle.roster.proofs.Places.{nth_inside, said_of, RuleWith, rule_with, no_entry, entries_set}
+use Rattle.roster.proofs.Places.{nth_inside, said_of, rule_with, no_entry, entries_set}
 
 -- the answer and the entries after it are those of a try
 pub record Attempted (m : Meaning) (xs ys : List Laid) (i k limit : ℕ) (r : Result Tried RosterFault) : Type 0 where

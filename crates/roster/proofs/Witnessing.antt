@@ -19,7 +19,6 @@ use Rattle.ctl.specs.declared.Verdict.{Verdict}
 use Rattle.ctl.specs.declared.Verdict.TheVariants.{Holds, Fails, Undecided}
 use Rattle.rule.specs.Tree.{formula}
 use Rattle.table.proofs.Answering.{kept_total}
-use Rattle.witness.specs.Written.{Written}
 use Rattle.guarantee.proofs.Listing.{none_some}
 use Rattle.guarantee.proofs.Opening.{test_passed}
 use Rattle.guarantee.proofs.Showing.{a_path_is_there}
@@ -31,7 +30,7 @@ use Rattle.guarantee.specs.declared.fault.RosterFault.{RosterFault}
 use Rattle.roster.proofs.Places.{nth_map}
 use Rattle.roster.specs.Books.{model_in, laid_in}
 use Rattle.roster.specs.Entries.{entry_of, entries_of}
-use Rattle.roster.specs.Showing.{StartShown, ShownAt, NoneShown, showing, RootShown, NoRootShown}
+use Rattle.roster.specs.Showing.{StartShown, showing, RootShown, NoRootShown}
 use Rattle.roster.specs.declared.book.Book.{Book}
 use Rattle.roster.specs.declared.laid.Laid.{Laid}
 

@@ -5,7 +5,7 @@ use Rattle.std.proofs.lemmas.Bool.{and_from, eq-eqb, le-leb, lt-leb, false≢tru
 use Rattle.std.proofs.lemmas.List.{append_assoc, append-nil, length-append, get_or_at}
 use Rattle.rowtext.proofs.OneLine.{not_broken, one_fault, one_reading}
 use Rattle.rowtext.specs.Claims.{OneAnswer}
-use Rattle.rowtext.specs.Faults.{Broken, Earns, FirstBeyond, FirstBroken, has_lines, place, targets_beyond, text_beyond, with_comma}
+use Rattle.rowtext.specs.Faults.{Broken, Earns, FirstBeyond, FirstBroken, has_lines, targets_beyond, text_beyond, with_comma}
 use Rattle.rowtext.specs.Format.{Below, Describes, Line, Rising, WellFormed, line_text, most_rows, sign, targets_text, text_of, with_newline}
 use Rattle.text.proofs.Cuts.{decimal_without, one_end, without_append}
 use Rattle.text.proofs.Newlines.{newlines_behind}

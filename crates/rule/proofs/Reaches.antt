@@ -1,5 +1,5 @@
 -- Where the walk stops is the text's reach.
-use Rattle.std.proofs.Common.{◌≡◌, ℕ, zero, suc, ◌+◌, ◌<◌, ◌≤◌, List, [], ◌∷◌, ◌++◌, length, take, drop, sym, ap, ◌∙◌, subst, append-nil, arith, length-drop}
+use Rattle.std.proofs.Common.{◌≡◌, ℕ, zero, suc, ◌<◌, ◌≤◌, List, [], ◌∷◌, ◌++◌, length, take, drop, sym, ap, ◌∙◌, subst, append-nil, arith, length-drop}
 use native.Mathlib.Decide.{dec_le}
 use lib.Seq.{take-length}
 use Rattle.rule.specs.Grammar.{Lawful, Begins, Reach}

@@ -1,11 +1,11 @@
 -- Words of bits, at any place.
-use Rattle.std.proofs.Common.{◌≡◌, ℕ, suc, ◌+◌, ◌*◌, ◌/◌, ◌%◌, ◌^◌, ◌<◌, ◌≤◌, Bool, true, false, not, ◌&&◌, ◌||◌, eqb, ltb, List, length, get_or, set, sym, refl, ap, ◌∙◌, ⊎_elim, arith}
-use lib.Bits.{bit_or, bit_and, bit_xor}
+use Rattle.std.proofs.Common.{◌≡◌, ℕ, ◌+◌, ◌/◌, ◌%◌, ◌^◌, ◌<◌, ◌≤◌, Bool, true, false, not, ◌&&◌, ◌||◌, eqb, ltb, List, length, get_or, set, sym, refl, ap, ◌∙◌, ⊎_elim, arith}
+use lib.Bits.{bit_and, bit_xor}
 use Rattle.std.proofs.lemmas.List.{get_or-set_same, get_or-set_other, get_or_past}
-use Rattle.std.proofs.lemmas.Bool.{cases_eq, cases_lt, ne_eqb, eq-eqb, lt-ltb, le-ltb}
+use Rattle.std.proofs.lemmas.Bool.{cases_eq, cases_lt, ne_eqb}
 use Rattle.std.proofs.lemmas.Bool.Decides.{nat_tests}
 use Rattle.sets.specs.Sets.{bit}
-use Rattle.sets.proofs.Bits.{bit_of_or, bit_pow, bit_minus, no_bit}
+use Rattle.sets.proofs.Bits.{bit_pow, bit_minus, no_bit}
 
 pub past : (ws : List ℕ) (s : ℕ) → length ws ≤ s / 64 → bit (get_or ws (s / 64) 0) (s % 64) ≡ false
 past ws s h = ap (λ x. bit x (s % 64)) (get_or_past ws (s / 64) 0 h) ∙ no_bit (s % 64)

@@ -1,7 +1,6 @@
-use Rattle.std.proofs.Common.{◌≡◌, sym, refl, ap, subst, inl}
+use Rattle.std.proofs.Common.{refl, inl}
 use Rattle.roster.proofs.Laying.{fault_refused}
 use Rattle.roster.proofs.lay.read_trees.Goals as goal
-use Rattle.roster.specs.Plain.{plain}
 
 pub returns-in-Err : goal.returns-in-Err
 returns-in-Err c = rw c.refusal.ensures (fault_refused c.args.text.now c.in-Err.fault c.in-Err.ensures.reads)

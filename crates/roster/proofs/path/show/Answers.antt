@@ -1,5 +1,5 @@
 use mathlib.Core.Bool.{false≢true}
-use Rattle.std.proofs.Common.{◌≡◌, length, sym, refl, ◌∙◌, arith, below_more}
+use Rattle.std.proofs.Common.{length, sym, refl, ◌∙◌, arith, below_more}
 use Rattle.ctl.specs.States.{states_that_count}
 use Rattle.rule.specs.Tree.{part_formula}
 use Rattle.sets.specs.Sets.{member}

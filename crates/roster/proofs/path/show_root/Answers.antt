@@ -1,4 +1,4 @@
-use Rattle.std.proofs.Common.{◌≡◌, sym, ap, ◌∙◌, subst}
+use Rattle.std.proofs.Common.{sym, ap, ◌∙◌, subst}
 use Rattle.ctl.specs.Formula.{Formula, path}
 use Rattle.rule.specs.Tree.{formula, part_formula}
 use Rattle.table.specs.Kept.{kept}

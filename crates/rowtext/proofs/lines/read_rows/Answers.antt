@@ -6,7 +6,7 @@ use Rattle.std.proofs.lemmas.Slice.{pushed}
 use Rattle.std.proofs.lemmas.Result.{err_from_is_err_and}
 use Rattle.rowtext.proofs.Described.{described}
 use Rattle.rowtext.proofs.TextForms.{broken_at, few_newlines, line_there, lines_more, one_break, some_line, stop_inside, text_beyond_more}
-use Rattle.rowtext.specs.Faults.{Broken, has_lines, place, text_beyond}
+use Rattle.rowtext.specs.Faults.{Broken, has_lines, text_beyond}
 use Rattle.rowtext.specs.Format.{WellFormed, line_of, line_text, lines_of, text_of}
 use Rattle.text.proofs.Newlines.{no_newline_past_the_end}
 use Rattle.rowtext.specs.declared.fault.RowFault.TheVariants.{Memory}

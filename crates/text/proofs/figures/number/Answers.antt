@@ -1,4 +1,4 @@
-use Rattle.std.proofs.Common.{◌≡◌, ◌+◌, ◌*◌, get_or, sym, refl, ap, subst, arith, rules}
+use Rattle.std.proofs.Common.{◌+◌, ◌*◌, get_or, sym, refl, subst, arith}
 use Rattle.text.proofs.Digits.{Half, empty_not, leading_not, no_figure, too_large, half_more, all_read}
 use Rattle.text.proofs.figures.number.Goals as goal
 use Rattle.text.proofs.figures.number.Goals.{else-piece-gt1-via-then-piece-gt1+else-piece-eq48, else-piece-gt1-via-else-piece-gt1}

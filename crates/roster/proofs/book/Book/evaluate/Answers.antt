@@ -1,4 +1,4 @@
-use Rattle.std.proofs.Common.{◌≡◌, vec_items, sym, ◌∙◌, subst}
+use Rattle.std.proofs.Common.{vec_items, ◌∙◌, subst}
 use Rattle.rule.specs.Tree.{formula}
 use Rattle.verdict.specs.Judging.{Judged}
 use Rattle.roster.proofs.Negating.{negates}

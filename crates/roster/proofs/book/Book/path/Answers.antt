@@ -1,4 +1,4 @@
-use Rattle.std.proofs.Common.{◌≡◌, ◌≤◌, length, vec_items, sym, ◌∙◌, subst}
+use Rattle.std.proofs.Common.{◌≤◌, length, vec_items, sym, ◌∙◌, subst}
 use Rattle.guarantee.specs.Looks.{looks_at}
 use Rattle.rule.specs.Tree.{formula}
 use Rattle.roster.proofs.Places.{nth_inside, nth_one}

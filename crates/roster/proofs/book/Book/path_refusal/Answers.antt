@@ -1,4 +1,4 @@
-use Rattle.std.proofs.Common.{◌≡◌, vec_items, sym, ◌∙◌, arith}
+use Rattle.std.proofs.Common.{vec_items, sym, ◌∙◌, arith}
 use Rattle.roster.proofs.Places.{nth_inside, rule_with}
 use Rattle.roster.proofs.Refusing.{no_rule, bound_too_high, no_verdict, no_root, no_room, too_many_looks, not_refused}
 use Rattle.roster.proofs.book.Book.path_refusal.Goals as goal

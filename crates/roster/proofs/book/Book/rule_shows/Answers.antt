@@ -1,4 +1,4 @@
-use Rattle.std.proofs.Common.{◌≡◌, vec_items, ap, ◌∙◌}
+use Rattle.std.proofs.Common.{vec_items, ap, ◌∙◌}
 use Rattle.guarantee.specs.States.{root_shows}
 use Rattle.rule.specs.Tree.{formula}
 use Rattle.roster.proofs.Places.{nth_inside}

@@ -1,4 +1,4 @@
-use Rattle.std.proofs.Common.{◌≡◌, ◌≤◌, length, vec_items, sym, refl, ap, ◌∙◌, subst, arith}
+use Rattle.std.proofs.Common.{◌≤◌, length, vec_items, sym, ap, arith}
 use Rattle.guarantee.specs.Limits.{most_rules}
 use Rattle.table.specs.Kept.{kept}
 use Rattle.roster.specs.Entries.{entries_of}

@@ -1,5 +1,5 @@
 use Rattle.std.proofs.Common.{◌≡◌, sym, ap, ◌∙◌}
-use Rattle.ctl.specs.Formula.{Formula, path, negation}
+use Rattle.ctl.specs.Formula.{path, negation}
 use Rattle.rule.specs.Tree.{formula, part_formula}
 use Rattle.roster.proofs.Negating.{negates}
 use Rattle.roster.proofs.laid.Trees.showing.Goals as goal

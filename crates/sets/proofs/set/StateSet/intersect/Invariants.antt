@@ -1,5 +1,5 @@
 use Rattle.std.proofs.Common.{◌≡◌, ℕ, ◌<◌, length, get_or}
-use lib.Bits.{bit_and, bit_or, bit_xor}
+use lib.Bits.{bit_and}
 use Rattle.sets.specs.Sets.{word_count}
 use Rattle.sets.proofs.set.StateSet.intersect.Given as goal
 

@@ -1,8 +1,8 @@
-use Rattle.std.proofs.Common.{◌≡◌, ℕ, ◌+◌, ◌*◌, ◌/◌, ◌%◌, ◌^◌, ◌<◌, true, false, ◌&&◌, get_or, sym, refl, ap, ◌∙◌, ap₂, ⊎_elim, arith}
+use Rattle.std.proofs.Common.{◌≡◌, ◌+◌, ◌*◌, ◌/◌, ◌%◌, ◌^◌, ◌<◌, ◌&&◌, get_or, sym, ap, ◌∙◌, ap₂, ⊎_elim, arith}
 use lib.Bits.{bit_and, and_le_l}
 use Rattle.sets.proofs.Words.{past}
 use Rattle.std.proofs.lemmas.Bool.{true≢false, false≢true, and_left, cases_lt}
-use Rattle.sets.specs.Sets.{word_count, bit, member}
+use Rattle.sets.specs.Sets.{word_count, bit}
 use Rattle.sets.proofs.Bits.{bit_of_and, some_bit, no_bit}
 use Rattle.sets.proofs.set.StateSet.meets.Goals as goal
 

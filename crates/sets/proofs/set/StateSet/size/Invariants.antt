@@ -1,4 +1,4 @@
-use Rattle.std.proofs.Common.{◌≡◌, ℕ, ◌≤◌}
+use Rattle.std.proofs.Common.{◌≡◌, ◌≤◌}
 use Rattle.ctl.specs.States.{size_below}
 use Rattle.sets.specs.Sets.{member}
 use Rattle.sets.proofs.set.StateSet.size.Given as goal
