@@ -1,6 +1,6 @@
 // What can be wrong with a listing's buffer or file. Faults of rows and of rule lines are carried whole.
 ghost use Rattle.std.specs.Prelude.{◌≡◌};
-ghost use Rattle.channel.specs.Faults.{layer as layer_of, number as number_of_lem, place as place_of, word};
+ghost use Rattle.channel.specs.Faults.{layer as layer_of, number as number_of, place as place_of, word};
 ghost use Rattle.channel.specs.declared.fault.FileFault.TheVariants.{Form, Rows, Rules, Memory};
 
 use crate::cause::Cause;
@@ -61,7 +61,7 @@ impl Layer {
 impl FileFault {
     // The number by which the fault is told; want of memory has none.
     pub fn number(&self) -> Option<u8>
-        ensures { result ≡ number_of_lem self.now }
+        ensures { result ≡ number_of self.now }
     {
         match self {
             FileFault::Buffer => Some(26),

@@ -5,7 +5,7 @@ use crate::fault::FileFault;
 use crate::parts::split;
 use crate::rules::read_rules;
 use model::Model;
-use rows::model::RowModel;
+use rows::row_model::RowModel;
 use std::alloc::Global;
 
 #[derive(Clone, Copy)]

@@ -1,6 +1,6 @@
 // Row texts: each is taken, or refused with a number and a place.
 use model::Model;
-use rows::model::RowModel;
+use rows::row_model::RowModel;
 use rowtext::fault::RowFault;
 use std::alloc::{AllocError, Global};
 use std::test::Fail;

@@ -2,7 +2,7 @@
 ghost use Rattle.rows.specs.Rows.{rows_meaning};
 ghost use Rattle.rows.specs.GoingOn;
 
-use crate::model::RowModel;
+use crate::row_model::RowModel;
 use model::{Model as ChannelModel, TotalModel};
 
 impl ChannelModel for RowModel {

@@ -3,4 +3,4 @@
 
 pub mod answers;
 mod checked;
-pub mod model;
+pub mod row_model;

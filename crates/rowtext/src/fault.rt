@@ -1,6 +1,6 @@
 // What can be wrong with a row text, with the place of the byte where it shows.
 ghost use Rattle.std.specs.Prelude.{◌≡◌};
-ghost use Rattle.rowtext.specs.Faults.{number as number_of_lem, place as place_of};
+ghost use Rattle.rowtext.specs.Faults.{number as number_of, place as place_of};
 ghost use Rattle.rowtext.specs.declared.fault.RowFault.TheVariants.{Memory};
 
 use std::alloc::{AllocError, AllocFailed};
@@ -24,7 +24,7 @@ pub enum RowFault {
 impl RowFault {
     // The number by which the fault is told; want of memory has none.
     pub fn number(&self) -> Option<u8>
-        ensures { result ≡ number_of_lem self.now }
+        ensures { result ≡ number_of self.now }
     {
         match self {
             RowFault::Lines => Some(16),

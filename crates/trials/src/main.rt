@@ -19,7 +19,7 @@ use anyhow::anyhow;
 use ctl::Verdict;
 use evaluate::truth::true_at;
 use model::Model;
-use rows::model::RowModel;
+use rows::row_model::RowModel;
 use rule::tree::Rule;
 use rule_reader::read_rule;
 use std::alloc::Global;

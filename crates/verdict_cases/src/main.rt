@@ -4,7 +4,7 @@
 use anyhow::anyhow;
 use ctl::{Binary, Connective, Quantifier, Unary, Verdict};
 use model::Model;
-use rows::model::RowModel;
+use rows::row_model::RowModel;
 use rule::tree::{PathPart, Rule};
 use std::alloc::{AllocError, Global};
 use table::asked::keep;

@@ -1,6 +1,6 @@
 use Rattle.std.proofs.Common.{◌≡◌, length, vec_items, ap, arith}
 use Rattle.rows.proofs.Starting.{start_more, start_all}
-use Rattle.rows.proofs.model.RowModel.has_start.Goals as goal
+use Rattle.rows.proofs.row_model.RowModel.has_start.Goals as goal
 
 pub loop-row-preserved : goal.loop-row-preserved
 loop-row-preserved c =
