@@ -9,9 +9,9 @@ use Rattle.rowtext.specs.Format.{Below, Describes, Line, WellFormed, line_of, li
 use Rattle.rowtext.specs.declared.row.Row.{Row}
 use Rattle.std.specs.Option.{option_or}
 
-or_other_parts : (a b : Option ℕ) → option_or a b ≡ None → (a ≡ None) × (b ≡ None)
-or_other_parts (Some p) b e = let z : ◌≡◌ {A = ℕ} 0 1 = cc in absurd (omega arith)
-or_other_parts None b e = (refl, e)
+option_or_parts : (a b : Option ℕ) → option_or a b ≡ None → (a ≡ None) × (b ≡ None)
+option_or_parts (Some p) b e = let z : ◌≡◌ {A = ℕ} 0 1 = cc in absurd (omega arith)
+option_or_parts None b e = (refl, e)
 
 pub none_beyond_target : (n at : ℕ) (ts : List ℕ) → targets_beyond n at ts ≡ None → AllByRecursion (λ t. t < n) ts
 none_beyond_target n at [] e = tt
@@ -24,7 +24,7 @@ none_beyond_target n at (t ∷ ts) e =
 pub none_beyond : (n at : ℕ) (ls : List Line) → text_beyond n at ls ≡ None → AllByRecursion (Below n) ls
 none_beyond n at [] e = tt
 none_beyond n at (l ∷ ls) e =
-    let p = or_other_parts (line_beyond n at l) (text_beyond n (at + length (with_newline l)) ls) e in
+    let p = option_or_parts (line_beyond n at l) (text_beyond n (at + length (with_newline l)) ls) e in
     (none_beyond_target n (at + 1 + length l.marks + 1) l.targets p.0, none_beyond n (at + length (with_newline l)) ls p.1)
 
 pub described : (text : List ℕ) (rows : List Row) → text ≡ text_of (lines_of rows) → AllByRecursion WellFormed (lines_of rows) → length rows ≤ most_rows → 0 < length rows → text_beyond (length rows) 0 (lines_of rows) ≡ None → Describes text (lines_of rows)

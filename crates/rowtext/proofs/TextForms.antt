@@ -58,20 +58,20 @@ broken_at text ls at end e within w f s h b =
       broken = subst (λ k. Broken k (drop at (take end text)) e) here b;
     }
 
-or_other_none : (a : Option ℕ) → option_or a None ≡ a
-or_other_none (Some p) = refl
-or_other_none None = refl
+option_or_none : (a : Option ℕ) → option_or a None ≡ a
+option_or_none (Some p) = refl
+option_or_none None = refl
 
-or_other_assoc : (a b c : Option ℕ) → option_or a (option_or b c) ≡ option_or (option_or a b) c
-or_other_assoc (Some p) b c = refl
-or_other_assoc None b c = refl
+option_or_assoc : (a b c : Option ℕ) → option_or a (option_or b c) ≡ option_or (option_or a b) c
+option_or_assoc (Some p) b c = refl
+option_or_assoc None b c = refl
 
 pub text_beyond_push : (n at : ℕ) (ls : List Line) (l : Line) → text_beyond n at (ls ++ l ∷ []) ≡ option_or (text_beyond n at ls) (line_beyond n (at + length (text_of ls)) l)
-text_beyond_push n at [] l = or_other_none (line_beyond n at l) ∙ ap (λ k. line_beyond n k l) (let z : at ≡ at + 0 = omega arith in z)
+text_beyond_push n at [] l = option_or_none (line_beyond n at l) ∙ ap (λ k. line_beyond n k l) (let z : at ≡ at + 0 = omega arith in z)
 text_beyond_push n at (x ∷ ls) l =
     let k = at + length (with_newline x) in
     let same : k + length (text_of ls) ≡ at + length (text_of (x ∷ ls)) = omega (arith, length-append (with_newline x) (text_of ls)) in
-    ap (option_or (line_beyond n at x)) (text_beyond_push n k ls l) ∙ or_other_assoc (line_beyond n at x) (text_beyond n k ls) (line_beyond n (k + length (text_of ls)) l) ∙ ap (λ j. option_or (option_or (line_beyond n at x) (text_beyond n k ls)) (line_beyond n j l)) same
+    ap (option_or (line_beyond n at x)) (text_beyond_push n k ls l) ∙ option_or_assoc (line_beyond n at x) (text_beyond n k ls) (line_beyond n (k + length (text_of ls)) l) ∙ ap (λ j. option_or (option_or (line_beyond n at x) (text_beyond n k ls)) (line_beyond n j l)) same
 
 -- one more line, whose orOther target not below n stands at q
 pub text_beyond_more : (text : List ℕ) (n at : ℕ) (ls : List Line) (l : Line) (seen q : Option ℕ) → at ≤ length text → text ≡ text_of ls ++ drop at text → seen ≡ text_beyond n 0 ls → q ≡ line_beyond n at l → option_or seen q ≡ text_beyond n 0 (ls ++ l ∷ [])
