@@ -2,7 +2,6 @@
 use channel::fault::FileFault;
 use channel::listing::listing;
 use std::alloc::{AllocError, Global};
-use std::process::Abort;
 use std::test::Fail;
 
 struct File {
@@ -152,15 +151,19 @@ const FILES: [File; 34] = [
 const FILLER: u8 = 7;
 
 // The file gets this line, and what stands behind it in the buffer is left alone.
-fn gets(rt: &impl Abort, heap: Global, file: &str, line: &str) -> Result<(), Fail> {
+fn gets(heap: Global, file: &str, line: &str) -> Result<(), Fail> {
     let mut buffer = [FILLER; 1100];
     let length = match listing(heap, file.as_bytes(), &mut buffer) {
         Ok(n) => n,
         Err(refusal) => refusal.length,
     };
-    assert!(rt; &buffer[0..length] == line.as_bytes(), "{file}");
+    if &buffer[0..length] != line.as_bytes() {
+        return Err(Fail::new(file));
+    }
     for b in buffer[length..].iter() {
-        assert!(rt; *b == FILLER, "{file}");
+        if *b != FILLER {
+            return Err(Fail::new(file));
+        }
     }
     Ok(())
 }
@@ -198,7 +201,7 @@ fn padded(heap: Global, last: usize) -> Result<String, AllocError> {
 #[test]
 fn each_file_gets_its_line(rt: HostRuntime) -> Result<(), Fail> {
     for file in FILES.iter() {
-        gets(&rt, rt.alloc(), file.text, file.line)?;
+        gets(rt.alloc(), file.text, file.line)?;
     }
     Ok(())
 }
@@ -208,13 +211,8 @@ fn a_file_may_have_16384_bytes_and_no_more(rt: HostRuntime) -> Result<(), Fail> 
     let heap = rt.alloc();
     let most = padded(heap, 120)?;
     assert_eq!(rt; most.len(), 16384);
-    gets(&rt, heap, most.as_str(), "states 64 rules 12\n")?;
-    gets(
-        &rt,
-        heap,
-        padded(heap, 121)?.as_str(),
-        "refused 27 file 0\n",
-    )
+    gets(heap, most.as_str(), "states 64 rules 12\n")?;
+    gets(heap, padded(heap, 121)?.as_str(), "refused 27 file 0\n")
 }
 
 #[test]
@@ -222,10 +220,10 @@ fn a_rule_line_may_have_255_bytes_and_no_more(rt: HostRuntime) -> Result<(), Fai
     let heap = rt.alloc();
     let longest = rule_line(heap, 255)?;
     let taken = format!(in heap; "*>0\n{longest}@4\n")?;
-    gets(&rt, heap, taken.as_str(), "states 1 rules 1\n")?;
+    gets(heap, taken.as_str(), "states 1 rules 1\n")?;
     let longer = rule_line(heap, 256)?;
     let refused = format!(in heap; "*>0\n{longer}@4\n")?;
-    gets(&rt, heap, refused.as_str(), "refused 6 rule 4\n")
+    gets(heap, refused.as_str(), "refused 6 rule 4\n")
 }
 
 #[test]
