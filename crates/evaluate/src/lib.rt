@@ -1,7 +1,8 @@
 // Truth of a rule at a bound, as a set of states, at its exact cost in looks. Nothing allocates.
 #![tactic(auto)]
 
-pub mod parts;
+pub mod evaluation;
+pub mod operands;
 pub mod paths;
-pub mod sets_of_parts;
+mod sets_of_parts;
 pub mod truth;

@@ -1,2 +1,3 @@
 pub mod Passing
 pub mod Shares
+pub mod Successors
