@@ -4,28 +4,20 @@
 // written out and counted. It shares nothing with the evaluator but the rule tree and the model's four questions.
 #![tactic(auto)]
 
-ghost use Rattle.std.specs.Prelude.{◌≡◌};
-ghost use Rattle.ctl.specs.Formula.{negation as negated};
-ghost use Rattle.rule.specs.Tree.{formula};
-
 mod listing;
 mod paths;
 mod random;
+mod states;
+mod trial;
 
-use crate::listing::{listed_cost, listed_truth};
-use crate::paths::has;
 use crate::random::{Random, random_rows, random_rule};
+use crate::trial::Trial;
 use anyhow::anyhow;
-use ctl::Verdict;
-use evaluate::truth::true_at;
-use model::Model;
 use rows::row_model::RowModel;
-use rule::tree::Rule;
 use rule_reader::read_rule;
 use std::alloc::Global;
 use table::asked::keep;
 use table::kept::Table;
-use verdict::judged::judge;
 
 const MODELS: u32 = 4000;
 
@@ -42,84 +34,6 @@ struct Tally {
     differences: u32,
 }
 
-// What plain listing says of a rule at a bound.
-#[derive(Clone, Copy)]
-struct Listed {
-    on: u32,
-    off: u32,
-    cost: u64,
-}
-
-fn list(
-    heap: Global,
-    model: &RowModel,
-    rule: &Rule,
-    negation: &Rule,
-    k: u16,
-) -> anyhow::Result<Listed> {
-    let on = listed_truth(heap, model, rule, k)?;
-    let off = listed_truth(heap, model, negation, k)?;
-    let cost = listed_cost(heap, model, rule, k)?.saturating_add(listed_cost(
-        heap, model, negation, k,
-    )?);
-    Ok(Listed { on, off, cost })
-}
-
-// The verdict from the listed states: not shown to hold is not failing.
-fn listed_verdict(model: &RowModel, listed: Listed) -> Verdict {
-    let mut holds = true;
-    let mut fails = false;
-    for s in 0..model.count() {
-        if model.starts(s) {
-            holds = holds & has(listed.on, s);
-            fails = fails | has(listed.off, s);
-        }
-    }
-    if holds {
-        Verdict::Holds
-    } else if fails {
-        Verdict::Fails
-    } else {
-        Verdict::Undecided
-    }
-}
-
-// The evaluated set is the listed one.
-fn same_set(model: &RowModel, table: &Table, rule: &Rule, k: u16, on: u32) -> bool {
-    let Some(truth) = true_at(table, table.counted(), rule, k, u32::MAX) else {
-        return false;
-    };
-    let mut same = true;
-    for s in 0..model.count() {
-        same = same & (truth.set.contains(usize::from(s)) == has(on, s));
-    }
-    same
-}
-
-// The verdict and its cost are the listed ones, the cost is within its own limit and above one less.
-fn same_verdict(
-    model: &RowModel,
-    table: &Table,
-    rule: &Rule,
-    negation: &Rule,
-    k: u16,
-    listed: Listed,
-) -> bool
-    requires { formula negation.now ≡ negated (formula rule.now) }
-{
-    let Ok(cost) = u32::try_from(listed.cost) else {
-        return false;
-    };
-    let Some(judged) = judge(table, rule, negation, k, cost) else {
-        return false;
-    };
-    let below = match cost.checked_sub(1) {
-        Some(less) => judge(table, rule, negation, k, less).is_none(),
-        None => true,
-    };
-    below && judged.looks == cost && judged.verdict == listed_verdict(model, listed)
-}
-
 // One rule on one model, at every bound.
 fn try_rule(
     heap: Global,
@@ -132,14 +46,16 @@ fn try_rule(
         return Err(anyhow!("a rule was refused"));
     };
     let negation = rule.negated(heap)?;
+    let trial = Trial {
+        model,
+        table,
+        rule: &rule,
+        negation: &negation,
+    };
     tally.rules = tally.rules.saturating_add(1);
     for k in 0..BOUNDS {
-        let listed = list(heap, model, &rule, &negation, k)?;
-        let same = same_set(model, table, &rule, k, listed.on)
-            && same_set(model, table, &negation, k, listed.off)
-            && same_verdict(model, table, &rule, &negation, k, listed);
         tally.bounds = tally.bounds.saturating_add(1);
-        if !same {
+        if !trial.agrees_at(heap, k)? {
             tally.differences = tally.differences.saturating_add(1);
         }
     }
@@ -176,12 +92,12 @@ fn main(rt: HostRuntime) -> anyhow::Result<()> {
     for _ in 0..MODELS {
         try_model(rt.alloc(), &mut random, &mut tally)?;
     }
-    let models = tally.models;
-    let rules = tally.rules;
-    let bounds = tally.bounds;
-    let differences = tally.differences;
     println!(rt;
-        "models {models} rules {rules} bounds compared {bounds} differences {differences}"
+        "models {} rules {} bounds compared {} differences {}",
+        tally.models,
+        tally.rules,
+        tally.bounds,
+        tally.differences
     )?;
     Ok(())
 }

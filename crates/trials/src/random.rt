@@ -1,4 +1,6 @@
 // Random row texts and rule texts, from a fixed seed.
+ghost use Rattle.std.specs.Prelude.{◌<◌};
+
 use std::alloc::{AllocError, Global};
 
 #[derive(Clone, Copy)]
@@ -15,18 +17,27 @@ impl Random {
     }
 
     // A number below n; 0 if n is 0.
-    pub fn below(&mut self, n: u64) -> u64 {
+    pub fn below(&mut self, n: usize) -> usize
+        ensures { 0 < n → result < n }
+    {
         let x = self.next().wrapping_shr(11);
-        if n == 0 { 0 } else { x % n }
+        (x as usize).checked_rem(n).unwrap_or(0)
     }
 
     fn chance(&mut self) -> bool {
         self.below(2) == 1
     }
+
+    // One of the texts.
+    fn pick<T: Copy, const N: usize>(&mut self, from: &[T; N]) -> T
+        requires { 0 < N }
+    {
+        from[self.below(N)]
+    }
 }
 
 // One line: a sign, some of the letters a to c, and at least one target below `count`.
-fn random_line(heap: Global, random: &mut Random, count: u64) -> Result<String, AllocError> {
+fn random_line(heap: Global, random: &mut Random, count: usize) -> Result<String, AllocError> {
     let mut line = String::from_str(heap, if random.chance() { "*" } else { "-" })?;
     for letter in "abc".chars() {
         if random.chance() {
@@ -34,13 +45,11 @@ fn random_line(heap: Global, random: &mut Random, count: u64) -> Result<String, 
         }
     }
     let sure = random.below(count);
-    let mut first = true;
+    let mut before = ">";
     for t in 0..count {
         if t == sure || random.chance() {
-            line.push_str(if first { ">" } else { "," })?;
-            let target = format!(in heap; "{t}")?;
-            line.push_str(target.as_str())?;
-            first = false;
+            write!(line, "{before}{t}")?;
+            before = ",";
         }
     }
     line.push_str("\n")?;
@@ -59,58 +68,36 @@ pub fn random_rows(heap: Global, random: &mut Random) -> Result<String, AllocErr
 }
 
 // A letter, its negation, or a constant.
-fn random_leaf(random: &mut Random) -> &'static str {
-    match random.below(8) {
-        0 => "a",
-        1 => "b",
-        2 => "c",
-        3 => "!a",
-        4 => "!b",
-        5 => "!c",
-        6 => "0",
-        _ => "1",
-    }
-}
+const LEAVES: [&str; 8] = ["a", "b", "c", "!a", "!b", "!c", "0", "1"];
 
-fn random_front(random: &mut Random) -> &'static str {
-    match random.below(6) {
-        0 => "AX",
-        1 => "AF",
-        2 => "AG",
-        3 => "EX",
-        4 => "EF",
-        _ => "EG",
-    }
-}
+const FRONTS: [&str; 6] = ["AX", "AF", "AG", "EX", "EF", "EG"];
 
-fn random_joint(random: &mut Random) -> (&'static str, &'static str) {
-    match random.below(6) {
-        0 => ("(", "&"),
-        1 => ("(", "|"),
-        2 => ("A(", "U"),
-        3 => ("A(", "R"),
-        4 => ("E(", "U"),
-        _ => ("E(", "R"),
-    }
-}
+const JOINTS: [(&str, &str); 6] = [
+    ("(", "&"),
+    ("(", "|"),
+    ("A(", "U"),
+    ("A(", "R"),
+    ("E(", "U"),
+    ("E(", "R"),
+];
 
 // Appends a unit of at most so many layers.
 pub fn random_rule(random: &mut Random, layers: u8, text: &mut String) -> Result<(), AllocError> {
     if layers == 0 {
-        return text.push_str(random_leaf(random));
+        return text.push_str(random.pick(&LEAVES));
     }
     match random.below(6) {
-        0 => text.push_str(random_leaf(random)),
+        0 => text.push_str(random.pick(&LEAVES)),
         1 => {
             text.push_str("!")?;
             random_rule(random, layers - 1, text)
         }
         2 | 3 => {
-            text.push_str(random_front(random))?;
+            text.push_str(random.pick(&FRONTS))?;
             random_rule(random, layers - 1, text)
         }
         _ => {
-            let (front, joint) = random_joint(random);
+            let (front, joint) = random.pick(&JOINTS);
             text.push_str(front)?;
             random_rule(random, layers - 1, text)?;
             text.push_str(joint)?;

@@ -4,4 +4,4 @@ use Rattle.rule.specs.Tree.{formula}
 use Rattle.trials.proofs.try_rule.Given as goal
 
 abbrev pub invariant-loop-k : goal.invariant-loop-k
-invariant-loop-k l = formula l.negation ≡ negation (formula l.rule)
+invariant-loop-k l = formula l.trial.negation.now ≡ negation (formula l.trial.rule.now)
