@@ -2,5 +2,6 @@
 #![tactic(auto)]
 
 pub mod cycle;
+pub mod refusal;
 pub mod root;
 pub mod until;
