@@ -40,11 +40,8 @@ impl RuleFault {
         ensures { result ≡ place self.now }
     {
         match self {
-            RuleFault::Length => 0,
-            RuleFault::NoSign(at) => *at,
-            RuleFault::Misplaced(at) => *at,
-            RuleFault::Unfinished(at) => *at,
-            RuleFault::Memory => 0,
+            RuleFault::Length | RuleFault::Memory => 0,
+            RuleFault::NoSign(at) | RuleFault::Misplaced(at) | RuleFault::Unfinished(at) => *at,
         }
     }
 }

@@ -5,7 +5,7 @@ ghost use Rattle.rule.specs.Signs.{sign_of};
 use ctl::{Binary, Quantifier, Unary};
 
 // What a byte is in a rule text: one of the signs, or none of them.
-#[derive(Clone, Copy)]
+#[derive(Clone, Copy, PartialEq, Eq, Debug)]
 pub enum Sign {
     Letter(u8),
     Constant(bool),
@@ -21,27 +21,28 @@ pub enum Sign {
     Other,
 }
 
-// The sign that `byte` is.
-pub fn sign_of(byte: u8) -> Sign
-    ensures { result ≡ sign_of byte }
-{
-    match byte as char {
-        'a'..='z' => Sign::Letter(byte),
-        '0' => Sign::Constant(false),
-        '1' => Sign::Constant(true),
-        '!' => Sign::Not,
-        '&' => Sign::And,
-        '|' => Sign::Or,
-        '(' => Sign::Open,
-        ')' => Sign::Close,
-        'A' => Sign::Quantifier(Quantifier::All),
-        'E' => Sign::Quantifier(Quantifier::Exists),
-        'X' => Sign::Unary(Unary::Next),
-        'F' => Sign::Unary(Unary::Eventually),
-        'G' => Sign::Unary(Unary::Always),
-        'U' => Sign::Binary(Binary::Until),
-        'R' => Sign::Binary(Binary::Release),
-        ' ' => Sign::Space,
-        _ => Sign::Other,
+impl From<u8> for Sign {
+    ghost from_gives = { λ byte sign. sign ≡ sign_of byte };
+
+    fn from(byte: u8) -> Self {
+        match byte as char {
+            'a'..='z' => Sign::Letter(byte),
+            '0' => Sign::Constant(false),
+            '1' => Sign::Constant(true),
+            '!' => Sign::Not,
+            '&' => Sign::And,
+            '|' => Sign::Or,
+            '(' => Sign::Open,
+            ')' => Sign::Close,
+            'A' => Sign::Quantifier(Quantifier::All),
+            'E' => Sign::Quantifier(Quantifier::Exists),
+            'X' => Sign::Unary(Unary::Next),
+            'F' => Sign::Unary(Unary::Eventually),
+            'G' => Sign::Unary(Unary::Always),
+            'U' => Sign::Binary(Binary::Until),
+            'R' => Sign::Binary(Binary::Release),
+            ' ' => Sign::Space,
+            _ => Sign::Other,
+        }
     }
 }
