@@ -8,7 +8,7 @@ use Rattle.rule.proofs.Walk.{State, need, part, after, Move, stuck, to, step, Wa
 use Rattle.rule.specs.declared.fault.RuleFault.{RuleFault}
 use Rattle.rule.specs.declared.fault.RuleFault.TheVariants.{Length, NoSign, Misplaced, Unfinished, Memory}
 use Rattle.rule.specs.declared.sign.Sign.{Sign}
-use Rattle.rule.specs.declared.sign.Sign.TheVariants.{Letter, Constant, Not, And, Or, Open, Close, Quantifier, Unary, Binary, Space, Other}
+use Rattle.rule.specs.declared.sign.Sign.TheVariants.{Letter, Constant, Not, Connective, Open, Close, Quantifier, Unary, Binary, Space, Other}
 use Rattle.rule.proofs.Cases.{zero_is_not_one}
 use Rattle.rule.proofs.Completions.{done_lawful, not_done}
 use Rattle.rule.proofs.Reaches.{stop_is_reach, stop_is_unlawful, lawful_reaches_its_end, one_reach}
@@ -39,8 +39,7 @@ no_sign_or_sign : (x : Sign) → (x ≡ Other) ⊎ (x ≡ Other → ⊥)
 no_sign_or_sign (Letter c) = inr (λ e. zero_is_not_one cc)
 no_sign_or_sign (Constant b) = inr (λ e. zero_is_not_one cc)
 no_sign_or_sign Not = inr (λ e. zero_is_not_one cc)
-no_sign_or_sign And = inr (λ e. zero_is_not_one cc)
-no_sign_or_sign Or = inr (λ e. zero_is_not_one cc)
+no_sign_or_sign (Connective op) = inr (λ e. zero_is_not_one cc)
 no_sign_or_sign Open = inr (λ e. zero_is_not_one cc)
 no_sign_or_sign Close = inr (λ e. zero_is_not_one cc)
 no_sign_or_sign (Quantifier q) = inr (λ e. zero_is_not_one cc)

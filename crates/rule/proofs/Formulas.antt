@@ -8,7 +8,7 @@ use Rattle.ctl.specs.declared.Binary.{Binary}
 use Rattle.rule.specs.Grammar.{Spaces, none, more, Reads, here, skip, IsUnit, by_letter, by_constant, by_not, by_group, by_path, IsPathPart, by_one, by_two, IsTerm, by_unit, by_and, IsRule, by_term, by_or, Means}
 use Rattle.rule.specs.Signs.{sign_of}
 use Rattle.rule.specs.declared.sign.Sign.{Sign}
-use Rattle.rule.specs.declared.sign.Sign.TheVariants.{Letter, Constant, Not, And as AndSign, Or as OrSign, Open, Close, Quantifier as QuantifierSign, Unary as UnarySign, Binary as BinarySign, Space, Other}
+use Rattle.rule.specs.declared.sign.Sign.TheVariants.{Letter, Constant, Not, Connective as ConnectiveSign, Open, Close, Quantifier as QuantifierSign, Unary as UnarySign, Binary as BinarySign, Space, Other}
 
 -- ---- the reading
 
@@ -65,8 +65,7 @@ abbrev step : State → Sign → State
 step (need o a ps σ) (Letter c) = after o (and_with a (apply ps (literal true c))) σ
 step (need o a ps σ) (Constant b) = after o (and_with a (apply ps (constant b))) σ
 step (need o a ps σ) Not = need o a (neg ∷ ps) σ
-step (need o a ps σ) AndSign = dead
-step (need o a ps σ) OrSign = dead
+step (need o a ps σ) (ConnectiveSign op) = dead
 step (need o a ps σ) Open = need nothing nothing [] (group o a ps ∷ σ)
 step (need o a ps σ) Close = dead
 step (need o a ps σ) (QuantifierSign q) = part q o a ps σ
@@ -77,8 +76,7 @@ step (need o a ps σ) Other = dead
 step (part q o a ps σ) (Letter c) = dead
 step (part q o a ps σ) (Constant b) = dead
 step (part q o a ps σ) Not = dead
-step (part q o a ps σ) AndSign = dead
-step (part q o a ps σ) OrSign = dead
+step (part q o a ps σ) (ConnectiveSign op) = dead
 step (part q o a ps σ) Open = need nothing nothing [] (left q o a ps ∷ σ)
 step (part q o a ps σ) Close = dead
 step (part q o a ps σ) (QuantifierSign q') = dead
@@ -89,8 +87,8 @@ step (part q o a ps σ) Other = dead
 step (after o v σ) (Letter c) = dead
 step (after o v σ) (Constant b) = dead
 step (after o v σ) Not = dead
-step (after o v σ) AndSign = need o (just v) [] σ
-step (after o v σ) OrSign = need (just (or_with o v)) nothing [] σ
+step (after o v σ) (ConnectiveSign And) = need o (just v) [] σ
+step (after o v σ) (ConnectiveSign Or) = need (just (or_with o v)) nothing [] σ
 step (after o v σ) Open = dead
 step (after o v σ) Close = close σ (or_with o v)
 step (after o v σ) (QuantifierSign q') = dead

@@ -46,6 +46,7 @@ impl RuleFault {
     }
 }
 
+// The two are written by hand, since clauses name the fault that a `?` makes of them.
 impl From<AllocError> for RuleFault {
     ghost from_gives = { λ _ r. r ≡ Memory };
 

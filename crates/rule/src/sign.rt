@@ -2,7 +2,7 @@
 ghost use Rattle.std.specs.Prelude.{◌≡◌};
 ghost use Rattle.rule.specs.Signs.{sign_of};
 
-use ctl::{Binary, Quantifier, Unary};
+use ctl::{Binary, Connective, Quantifier, Unary};
 
 // What a byte is in a rule text: one of the signs, or none of them.
 #[derive(Clone, Copy, PartialEq, Eq, Debug)]
@@ -10,8 +10,7 @@ pub enum Sign {
     Letter(u8),
     Constant(bool),
     Not,
-    And,
-    Or,
+    Connective(Connective),
     Open,
     Close,
     Quantifier(Quantifier),
@@ -30,8 +29,8 @@ impl From<u8> for Sign {
             '0' => Sign::Constant(false),
             '1' => Sign::Constant(true),
             '!' => Sign::Not,
-            '&' => Sign::And,
-            '|' => Sign::Or,
+            '&' => Sign::Connective(Connective::And),
+            '|' => Sign::Connective(Connective::Or),
             '(' => Sign::Open,
             ')' => Sign::Close,
             'A' => Sign::Quantifier(Quantifier::All),

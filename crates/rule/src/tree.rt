@@ -68,7 +68,8 @@ impl Rule {
         }
     }
 
-    // The negation as a tree of its own.
+    // The negation as a tree of its own. It is no clone that is then negated: what a derived `clone`
+    // gives of a type that leads back to itself is not known to a proof.
     #[cycle(negated_negated)]
     pub fn negated(&self, heap: Global) -> Result<Rule, AllocError>
         ensures { IfOk result (λ n. formula n ≡ negation (formula self.now)) }
