@@ -1,5 +1,5 @@
 -- What a reader has before it. Only the private contracts of its methods speak of this.
-use Rattle.std.specs.Prelude.{ℕ, List, drop}
+use Rattle.std.specs.Prelude.{◌≡◌, ℕ, ◌≤◌, List, drop}
 use Rattle.rule_reader.specs.declared.reader.Reader.{Reader}
 
 -- the whole text that it reads
@@ -9,3 +9,8 @@ bytes r = r.text.now
 -- the text from its place on
 abbrev pub ahead : Reader → List ℕ
 ahead r = drop r.at r.text.now
+
+-- a reader, later: it reads the same text, from the same place or from one further on
+pub record Onward (r s : Reader) : Type 0 where
+  pub same : bytes s ≡ bytes r
+  pub further : r.at ≤ s.at
