@@ -1,9 +1,9 @@
 // The readings of units, path parts and rules, which call each other as the grammar does. Each takes
 // what it can, and stands behind it; a refusal is at the place where no rule could go on.
 ghost use Rattle.std.specs.Prelude.{◌≡◌, [], ◌∷◌, MatchResult};
-ghost use Rattle.rule_reader.specs.Ahead.{bytes, ahead, Onward};
+ghost use Rattle.rule_reader.specs.Ahead.{ahead, Onward, HaltsAhead};
 ghost use Rattle.rule_reader.specs.Chains.{IsOperand, IsChain, OperandEnded};
-ghost use Rattle.rule_reader.specs.Halts.{Clear, Ended, Halts};
+ghost use Rattle.rule_reader.specs.Halts.{Clear, Ended};
 ghost use Rattle.rule.specs.Grammar.{Reads, IsUnit, IsPathPart, IsRule, Means};
 ghost use Rattle.rule.specs.Tree.{formula, part_formula};
 ghost use Rattle.rule.proofs.Walk.{closing, joining, need, part, after};
@@ -19,7 +19,7 @@ use std::alloc::Global;
 impl<'a> Reader<'a> {
     // The rule that all of the text ahead is.
     pub(crate) fn whole(&mut self, heap: Global) -> Result<Rule, RuleFault>
-        ensures reads { MatchResult result (λ f. Means (ahead self.old) (formula f)) (λ e. Halts (λ _. need []) (ahead self.old) (bytes self.old) e) }
+        ensures reads { MatchResult result (λ f. Means (ahead self.old) (formula f)) (HaltsAhead (λ _. need []) self.old) }
     {
         let rule = self.rule(heap)?;
         self.end()?;
@@ -30,7 +30,7 @@ impl<'a> Reader<'a> {
     #[cycle(reading)]
     fn rule(&mut self, heap: Global) -> Result<Rule, RuleFault>
         ensures onward { Onward self.old self.new }
-        ensures reads { MatchResult result (λ f. IsRule (ahead self.old) (formula f) (ahead self.new) × Ended (ahead self.new)) (λ e. Halts need (ahead self.old) (bytes self.old) e) }
+        ensures reads { MatchResult result (λ f. IsRule (ahead self.old) (formula f) (ahead self.new) × Ended (ahead self.new)) (HaltsAhead need self.old) }
     {
         self.chain(heap, Connective::Or)
     }
@@ -39,7 +39,7 @@ impl<'a> Reader<'a> {
     #[cycle(reading)]
     fn chain(&mut self, heap: Global, op: Connective) -> Result<Rule, RuleFault>
         ensures onward { Onward self.old self.new }
-        ensures reads { MatchResult result (λ f. IsChain op (ahead self.old) (formula f) (ahead self.new) × OperandEnded op (ahead self.new) × Clear (ConnectiveSign op) (ahead self.new)) (λ e. Halts need (ahead self.old) (bytes self.old) e) }
+        ensures reads { MatchResult result (λ f. IsChain op (ahead self.old) (formula f) (ahead self.new) × OperandEnded op (ahead self.new) × Clear (ConnectiveSign op) (ahead self.new)) (HaltsAhead need self.old) }
     {
         let mut left = self.operand(heap, op)?;
         while self.next() == Some(Sign::Connective(op)) {
@@ -54,7 +54,7 @@ impl<'a> Reader<'a> {
     #[cycle(reading)]
     fn operand(&mut self, heap: Global, op: Connective) -> Result<Rule, RuleFault>
         ensures onward { Onward self.old self.new }
-        ensures reads { MatchResult result (λ f. IsOperand op (ahead self.old) (formula f) (ahead self.new) × OperandEnded op (ahead self.new)) (λ e. Halts need (ahead self.old) (bytes self.old) e) }
+        ensures reads { MatchResult result (λ f. IsOperand op (ahead self.old) (formula f) (ahead self.new) × OperandEnded op (ahead self.new)) (HaltsAhead need self.old) }
     {
         match op {
             Connective::And => self.unit(heap),
@@ -66,7 +66,7 @@ impl<'a> Reader<'a> {
     #[cycle(reading)]
     fn unit(&mut self, heap: Global) -> Result<Rule, RuleFault>
         ensures onward { Onward self.old self.new }
-        ensures reads { MatchResult result (λ f. IsUnit (ahead self.old) (formula f) (ahead self.new)) (λ e. Halts need (ahead self.old) (bytes self.old) e) }
+        ensures reads { MatchResult result (λ f. IsUnit (ahead self.old) (formula f) (ahead self.new)) (HaltsAhead need self.old) }
     {
         match self.next() {
             Some(Sign::Letter(mark)) => {
@@ -102,7 +102,7 @@ impl<'a> Reader<'a> {
     #[cycle(reading)]
     fn path_part(&mut self, heap: Global) -> Result<PathPart, RuleFault>
         ensures onward { Onward self.old self.new }
-        ensures reads { MatchResult result (λ x. IsPathPart (ahead self.old) (part_formula x) (ahead self.new)) (λ e. Halts part (ahead self.old) (bytes self.old) e) }
+        ensures reads { MatchResult result (λ x. IsPathPart (ahead self.old) (part_formula x) (ahead self.new)) (HaltsAhead part self.old) }
     {
         match self.next() {
             Some(Sign::Unary(op)) => {
@@ -126,7 +126,7 @@ impl<'a> Reader<'a> {
     fn binary(&mut self) -> Result<Binary, RuleFault>
         requires { Ended (ahead self.old) }
         ensures onward { Onward self.old self.new }
-        ensures reads { MatchResult result (λ op. Reads (BinarySign op) (ahead self.old) (ahead self.new)) (λ e. Halts (λ σ. after (joining ∷ σ)) (ahead self.old) (bytes self.old) e) }
+        ensures reads { MatchResult result (λ op. Reads (BinarySign op) (ahead self.old) (ahead self.new)) (HaltsAhead (λ σ. after (joining ∷ σ)) self.old) }
     {
         match self.next() {
             Some(Sign::Binary(op)) => {
@@ -141,7 +141,7 @@ impl<'a> Reader<'a> {
     fn close(&mut self) -> Result<(), RuleFault>
         requires { Ended (ahead self.old) }
         ensures onward { Onward self.old self.new }
-        ensures reads { MatchResult result (λ _. Reads Close (ahead self.old) (ahead self.new)) (λ e. Halts (λ σ. after (closing ∷ σ)) (ahead self.old) (bytes self.old) e) }
+        ensures reads { MatchResult result (λ _. Reads Close (ahead self.old) (ahead self.new)) (HaltsAhead (λ σ. after (closing ∷ σ)) self.old) }
     {
         match self.next() {
             Some(Sign::Close) => {
@@ -155,7 +155,7 @@ impl<'a> Reader<'a> {
     // The end of the text, behind a rule.
     fn end(&self) -> Result<(), RuleFault>
         requires { Ended (ahead self.now) }
-        ensures { MatchResult result (λ _. ahead self.now ≡ []) (λ e. Halts (λ _. after []) (ahead self.now) (bytes self.now) e) }
+        ensures { MatchResult result (λ _. ahead self.now ≡ []) (HaltsAhead (λ _. after []) self.now) }
     {
         match self.next() {
             None => Ok(()),
