@@ -10,7 +10,6 @@ use Rattle.rule.specs.Signs.{sign_of}
 use Rattle.rule.proofs.Walk.{Await, closing, joining, State, need, part, after, Move, stuck, to, join, close, step, done, stopped, moved, walk}
 use Rattle.rule.specs.declared.sign.Sign.{Sign}
 use Rattle.rule.specs.declared.sign.Sign.TheVariants.{Letter, Constant, Not, Connective, Open, Close, Quantifier, Unary, Binary, Space, Other}
-use Rattle.rule.proofs.Cases.{zero_is_not_one}
 use Rattle.rule.proofs.Spacing.{unit_behind_space, part_behind_space, rule_before_spaces}
 
 -- ---- a unit, and then more of a rule
@@ -169,7 +168,7 @@ live_begins s l = let z = live_accepts s (need []) l in (z.0, accepted z.1)
 -- ---- what the walk takes whole is a rule
 
 pub not_done : {r : List ℕ} → stopped r ≡ done → ⊥
-not_done e = zero_is_not_one cc
+not_done e = cc
 
 done_step : (s : List ℕ) → ((st : State) → walk st s ≡ done → Accepts st s) → (b : ℕ) (st : State) (m : Move) → step st (sign_of b) ≡ m → moved m (stopped (b ∷ s)) (λ s'. walk s' s) ≡ done → Accepts st (b ∷ s)
 done_step s ih b st stuck e k = absurd (not_done k)
