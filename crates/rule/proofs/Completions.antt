@@ -167,18 +167,15 @@ live_begins s l = let z = live_accepts s (need []) l in (z.0, accepted z.1)
 
 -- ---- what the walk takes whole is a rule
 
-pub not_done : {r : List ℕ} → stopped r ≡ done → ⊥
-not_done e = cc
-
 done_step : (s : List ℕ) → ((st : State) → walk st s ≡ done → Accepts st s) → (b : ℕ) (st : State) (m : Move) → step st (sign_of b) ≡ m → moved m (stopped (b ∷ s)) (λ s'. walk s' s) ≡ done → Accepts st (b ∷ s)
-done_step s ih b st stuck e k = absurd (not_done k)
+done_step s ih b st stuck e k = cc
 done_step s ih b st (to s') e k = back st b s (subst (λ (m : Move). AcceptsBehind m s) (sym e) (ih s' k))
 
 done_accepts : (s : List ℕ) (st : State) → walk st s ≡ done → Accepts st s
-done_accepts [] (need σ) e = absurd (not_done e)
-done_accepts [] (part σ) e = absurd (not_done e)
+done_accepts [] (need σ) e = cc
+done_accepts [] (part σ) e = cc
 done_accepts [] (after []) e = at_after (at_end stop none)
-done_accepts [] (after (a ∷ σ)) e = absurd (not_done e)
+done_accepts [] (after (a ∷ σ)) e = cc
 done_accepts (b ∷ s) st e = done_step s (done_accepts s) b st (step st (sign_of b)) refl e
 
 pub done_lawful : (s : List ℕ) → walk (need []) s ≡ done → Lawful s

@@ -1,5 +1,5 @@
 -- Which fault a text earns: at most one, and one exactly if it is no rule.
-use Rattle.std.proofs.Common.{◌≡◌, ℕ, suc, ◌<◌, ◌≤◌, ◌⊎◌, List, [], ◌∷◌, length, get_or, drop, sym, refl, ap, ◌∙◌, subst, inl, inr, arith}
+use Rattle.std.proofs.Common.{◌≡◌, ℕ, suc, ◌<◌, ◌≤◌, ◌⊎◌, List, [], ◌∷◌, length, get_or, drop, refl, ap, ◌∙◌, subst, inl, inr, arith}
 use native.Mathlib.Decide.{dec_le}
 use Rattle.rule.specs.Faults.{Sized, Earns}
 use Rattle.rule.specs.Grammar.{Lawful, Reach}
@@ -9,7 +9,7 @@ use Rattle.rule.specs.declared.fault.RuleFault.{RuleFault}
 use Rattle.rule.specs.declared.fault.RuleFault.TheVariants.{Length, NoSign, Misplaced, Unfinished, Memory}
 use Rattle.rule.specs.declared.sign.Sign.{Sign}
 use Rattle.rule.specs.declared.sign.Sign.TheVariants.{Letter, Constant, Not, Connective, Open, Close, Quantifier, Unary, Binary, Space, Other}
-use Rattle.rule.proofs.Completions.{done_lawful, not_done}
+use Rattle.rule.proofs.Completions.{done_lawful}
 use Rattle.rule.proofs.Reaches.{stop_is_reach, stop_is_unlawful, lawful_reaches_its_end, one_reach}
 
 -- ---- a lawful text earns none
@@ -30,7 +30,7 @@ stop_place s r ih b (to st) e = let z = ih st e in (suc z.0, omega (arith, z.1),
 stops_at_a_place : (s r : List ℕ) (st : State) → walk st s ≡ stopped r → (n : ℕ) × (n ≤ length s) × (r ≡ drop n s)
 stops_at_a_place [] r (need σ) e = (0, omega arith, cc)
 stops_at_a_place [] r (part σ) e = (0, omega arith, cc)
-stops_at_a_place [] r (after []) e = absurd (not_done (sym e))
+stops_at_a_place [] r (after []) e = cc
 stops_at_a_place [] r (after (a ∷ σ)) e = (0, omega arith, cc)
 stops_at_a_place (b ∷ s) r st e = stop_place s r (stops_at_a_place s r) b (step st (sign_of b)) e
 
