@@ -80,6 +80,3 @@ module _ (e : RuleFault) {T U s u v w : List ℕ} {f : Formula} {op : BinaryOp} 
 -- a whole text: its rule is followed by something, or is itself cut short
 pub behind_rule : (e : RuleFault) {T U s u : List ℕ} {f : Formula} → U ≡ T → IsRule s f u → Halts (λ _. after []) u U e → Halts (λ _. need []) s T e
 behind_rule e {s = s} {u = u} same d = halts_from e s u (λ _. need []) (λ _. after []) (λ σ. σ) same (λ σ. walk_rule d [])
-
-pub in_rule : (e : RuleFault) (s T : List ℕ) → Halts need s T e → Halts (λ _. need []) s T e
-in_rule e s T = halts_from e s s (λ _. need []) need (λ _. []) refl (λ σ. refl)

@@ -1,5 +1,5 @@
 -- What stands at a place of a text, and what is read from there.
-use Rattle.std.proofs.Common.{◌≡◌, ℕ, ◌+◌, ◌<◌, ◌≤◌, List, [], ◌∷◌, length, get_or, drop, take, ◌-◌, Some, None, Option, MatchOption, zero, suc, arith, sym, refl, ap, ◌∙◌, add-one, drop_of_length-le, drop-cons}
+use Rattle.std.proofs.Common.{◌≡◌, ℕ, ◌+◌, ◌<◌, ◌≤◌, List, [], ◌∷◌, length, get_or, drop, take, ◌-◌, Some, None, Option, MatchOption, zero, suc, arith, ap, add-one, drop_of_length-le, drop-cons}
 use Rattle.std.proofs.lemmas.List.{take_rest, drop-drop}
 use Rattle.std.specs.List.{AllWithin, HoldsAt}
 use Rattle.std.specs.Option.{unwrap_or}
@@ -9,21 +9,14 @@ use Rattle.rule_reader.specs.Halts.{first, Clear}
 use Rattle.rule.specs.declared.sign.Sign.{Sign}
 use Rattle.rule.specs.declared.sign.Sign.TheVariants.{Space}
 
-pub place_and_behind : (text : List ℕ) (n : ℕ) → n < length text → drop n text ≡ get_or text n 0 ∷ drop (n + 1) text
+place_and_behind : (text : List ℕ) (n : ℕ) → n < length text → drop n text ≡ get_or text n 0 ∷ drop (n + 1) text
 place_and_behind text n h = rw (add-one, drop-cons text n 0)
 
-pub first_at_place : (text : List ℕ) (n : ℕ) → n < length text → first (drop n text) ≡ Some (sign_of (get_or text n 0))
+first_at_place : (text : List ℕ) (n : ℕ) → n < length text → first (drop n text) ≡ Some (sign_of (get_or text n 0))
 first_at_place text n h = ap first (place_and_behind text n h)
 
-pub first_at_end : (text : List ℕ) (n : ℕ) → length text ≤ n → first (drop n text) ≡ None
+first_at_end : (text : List ℕ) (n : ℕ) → length text ≤ n → first (drop n text) ≡ None
 first_at_end text n h = ap first (drop_of_length-le text h)
-
-pub clear_by_sight : {r : Option Sign} (s : List ℕ) (x : Sign) → r ≡ first s → (r ≡ Some x → ⊥) → Clear x s
-clear_by_sight s x sees h e = h (sees ∙ e)
-
-pub none_only_at_end : (s : List ℕ) → first s ≡ None → s ≡ []
-none_only_at_end [] e = refl
-none_only_at_end (b ∷ s) e = cc
 
 -- s begins with n spaces
 spaces_up_to : (s : List ℕ) (n : ℕ) → n ≤ length s → AllWithin (λ b. sign_of b ≡ Space) s 0 n → Spaces s (drop n s)
@@ -43,9 +36,6 @@ pub reads_at_place : {x : Sign} (text : List ℕ) (n k : ℕ) → n < length tex
     (let behind = take (length text - (n + 1)) (drop (n + 1) text) in Spaces behind (drop k behind)) →
     first (drop n text) ≡ Some x → Reads x (drop n text) (drop (n + 1 + k) text)
 reads_at_place {x} text n k h g e =
-    let is : sign_of (get_or text n 0) ≡ x = some_is (sym (first_at_place text n h) ∙ e) in
+    let is : sign_of (get_or text n 0) ≡ x = cc (first_at_place text n h) in
     let spaces : Spaces (drop (n + 1) text) (drop (n + 1 + k) text) = rw (take_rest text (n + 1), drop-drop k (n + 1) text) at g in
     rw (place_and_behind text n h) (here is spaces)
-  where
-    some_is : {y z : Sign} → ◌≡◌ {A = Option Sign} (Some y) (Some z) → y ≡ z
-    some_is q = cc
