@@ -42,7 +42,7 @@ impl<'a> Reader<'a> {
         ensures reads { MatchResult result (λ f. IsChain op (ahead self.old) (formula f) (ahead self.new) × OperandEnded op (ahead self.new) × Clear (ConnectiveSign op) (ahead self.new)) (HaltsAhead need self.old) }
     {
         let mut left = self.operand(heap, op)?;
-        while self.next() == Some(Sign::Connective(op)) {
+        while self.peek() == Some(Sign::Connective(op)) {
             self.pass();
             let right = self.operand(heap, op)?;
             left = Rule::joined(heap, op, left, right)?;
@@ -68,7 +68,7 @@ impl<'a> Reader<'a> {
         ensures onward { Onward self.old self.new }
         ensures reads { MatchResult result (λ f. IsUnit (ahead self.old) (formula f) (ahead self.new)) (HaltsAhead need self.old) }
     {
-        match self.next() {
+        match self.peek() {
             Some(Sign::Letter(mark)) => {
                 self.pass();
                 Ok(Rule::Literal(true, mark))
@@ -104,7 +104,7 @@ impl<'a> Reader<'a> {
         ensures onward { Onward self.old self.new }
         ensures reads { MatchResult result (λ x. IsPathPart (ahead self.old) (part_formula x) (ahead self.new)) (HaltsAhead part self.old) }
     {
-        match self.next() {
+        match self.peek() {
             Some(Sign::Unary(op)) => {
                 self.pass();
                 let rule = self.unit(heap)?;
@@ -128,7 +128,7 @@ impl<'a> Reader<'a> {
         ensures onward { Onward self.old self.new }
         ensures reads { MatchResult result (λ op. Reads (BinarySign op) (ahead self.old) (ahead self.new)) (HaltsAhead (λ σ. after (joining ∷ σ)) self.old) }
     {
-        match self.next() {
+        match self.peek() {
             Some(Sign::Binary(op)) => {
                 self.pass();
                 Ok(op)
@@ -143,7 +143,7 @@ impl<'a> Reader<'a> {
         ensures onward { Onward self.old self.new }
         ensures reads { MatchResult result (λ _. Reads Close (ahead self.old) (ahead self.new)) (HaltsAhead (λ σ. after (closing ∷ σ)) self.old) }
     {
-        match self.next() {
+        match self.peek() {
             Some(Sign::Close) => {
                 self.pass();
                 Ok(())
@@ -157,7 +157,7 @@ impl<'a> Reader<'a> {
         requires { Ended (ahead self.now) }
         ensures { MatchResult result (λ _. ahead self.now ≡ []) (HaltsAhead (λ _. after []) self.now) }
     {
-        match self.next() {
+        match self.peek() {
             None => Ok(()),
             Some(_) => Err(self.fault()),
         }

@@ -22,7 +22,7 @@ impl<'a> Reader<'a> {
     }
 
     // The sign at the reader's place, or none at the end.
-    pub(crate) fn next(&self) -> Option<Sign>
+    pub(crate) fn peek(&self) -> Option<Sign>
         ensures sees { result ≡ first (ahead self.now) }
         ensures within { MatchOption result (self.now.at ≡ length (bytes self.now)) (λ _. self.now.at < length (bytes self.now)) }
     {
@@ -44,7 +44,7 @@ impl<'a> Reader<'a> {
     pub(crate) fn fault(&self) -> RuleFault
         ensures { Faulted (λ p. p ≡ self.now.at) (bytes self.now) result }
     {
-        match self.next() {
+        match self.peek() {
             None => RuleFault::Unfinished(self.at),
             Some(Sign::Other) => RuleFault::NoSign(self.at),
             Some(_) => RuleFault::Misplaced(self.at),
