@@ -3,6 +3,11 @@
 // The operators and the verdict are enums of the code, which the definitions in specs/ use too.
 #![tactic(auto)]
 
+ghost use Rattle.std.specs.Prelude.{Some};
+ghost use Rattle.ctl.specs.Verdict.{verdict_word};
+
+use std::fmt;
+
 pub mod looks;
 pub mod setwise;
 pub mod truth;
@@ -44,4 +49,16 @@ pub enum Verdict {
     Holds,
     Fails,
     Undecided,
+}
+
+impl fmt::Display for Verdict {
+    ghost output = { λ verdict. Some (verdict_word verdict) };
+
+    fn fmt<W: fmt::Write>(&self, f: &mut fmt::Formatter<W>) -> fmt::Result {
+        f.write_str(match self {
+            Verdict::Holds => "holds",
+            Verdict::Fails => "fails",
+            Verdict::Undecided => "undecided",
+        })
+    }
 }

@@ -1,14 +1,15 @@
 -- Whatever the walk has taken can be completed to a rule, and what it takes whole is one.
 use Rattle.std.proofs.Common.{◌≡◌, ℕ, List, [], ◌∷◌, ◌++◌, sym, refl, subst}
 use Rattle.ctl.specs.Formula.{Formula, PathPart}
+use Rattle.ctl.specs.declared.Connective.{Connective as ConnectiveOp}
+use Rattle.ctl.specs.declared.Connective.TheVariants.{And, Or}
 use Rattle.ctl.specs.declared.Binary.{Binary as BinaryOp}
 use Rattle.ctl.specs.declared.Binary.TheVariants.{Until}
 use Rattle.rule.specs.Grammar.{Spaces, none, more, Reads, here, skip, IsUnit, by_letter, by_constant, by_not, by_group, by_path, IsPathPart, by_one, by_two, IsTerm, by_unit, by_and, IsRule, by_term, by_or, Lawful, Begins}
 use Rattle.rule.specs.Signs.{sign_of}
 use Rattle.rule.proofs.Walk.{Await, closing, joining, State, need, part, after, Move, stuck, to, join, close, step, done, stopped, moved, walk}
 use Rattle.rule.specs.declared.sign.Sign.{Sign}
-use Rattle.rule.specs.declared.sign.Sign.TheVariants.{Letter, Constant, Not, And, Or, Open, Close, Quantifier, Unary, Binary, Space, Other}
-use Rattle.rule.proofs.Cases.{zero_is_not_one}
+use Rattle.rule.specs.declared.sign.Sign.TheVariants.{Letter, Constant, Not, Connective, Open, Close, Quantifier, Unary, Binary, Space, Other}
 use Rattle.rule.proofs.Spacing.{unit_behind_space, part_behind_space, rule_before_spaces}
 
 -- ---- a unit, and then more of a rule
@@ -20,25 +21,24 @@ Rules s t = (f : Formula) × IsRule s f t
 -- what may follow a unit inside one rule
 data More : List ℕ → List ℕ → Type 0 where
   stop : {s : List ℕ} → More s s
-  more_and : {s t u : List ℕ} → Reads And s t → Rules t u → More s u
-  more_or : {s t u : List ℕ} → Reads Or s t → Rules t u → More s u
+  go_on : {op : ConnectiveOp} {s t u : List ℕ} → Reads (Connective op) s t → Rules t u → More s u
 
-and_term : {w u v t : List ℕ} {f g : Formula} → IsTerm v g t → IsTerm w f u → Reads And u v → (h : Formula) × IsTerm w h t
+and_term : {w u v t : List ℕ} {f g : Formula} → IsTerm v g t → IsTerm w f u → Reads (Connective And) u v → (h : Formula) × IsTerm w h t
 and_term (by_unit u) d r = (_, by_and d r u)
 and_term (by_and e q u) d r = let z = and_term e d r in (_, by_and z.1 q u)
 
-and_rule : {w u v t : List ℕ} {f g : Formula} → IsRule v g t → IsTerm w f u → Reads And u v → Rules w t
+and_rule : {w u v t : List ℕ} {f g : Formula} → IsRule v g t → IsTerm w f u → Reads (Connective And) u v → Rules w t
 and_rule (by_term e) d r = let z = and_term e d r in (_, by_term z.1)
 and_rule (by_or a q e) d r = let z = and_rule a d r in (_, by_or z.1 q e)
 
-or_rule : {w u v t : List ℕ} {f g : Formula} → IsRule v g t → IsRule w f u → Reads Or u v → Rules w t
+or_rule : {w u v t : List ℕ} {f g : Formula} → IsRule v g t → IsRule w f u → Reads (Connective Or) u v → Rules w t
 or_rule (by_term e) d r = (_, by_or d r e)
 or_rule (by_or a q e) d r = let z = or_rule a d r in (_, by_or z.1 q e)
 
 unit_more : {w t u : List ℕ} {f : Formula} → More t u → IsUnit w f t → Rules w u
 unit_more stop d = (_, by_term (by_unit d))
-unit_more (more_and r q) d = and_rule q.1 (by_unit d) r
-unit_more (more_or r q) d = or_rule q.1 (by_term (by_unit d)) r
+unit_more (go_on {op = And} r q) d = and_rule q.1 (by_unit d) r
+unit_more (go_on {op = Or} r q) d = or_rule q.1 (by_term (by_unit d)) r
 
 -- ---- what a state accepts
 
@@ -55,24 +55,16 @@ data Accepts : State → List ℕ → Type 0 where
 
 closes_behind_space : {σ : List Await} {b : ℕ} {w : List ℕ} → sign_of b ≡ Space → Closes σ w → Closes σ (b ∷ w)
 closes_behind_space e (at_end stop k) = at_end stop (more e k)
-closes_behind_space e (at_end (more_and r q) k) = at_end (more_and (skip e r) q) k
-closes_behind_space e (at_end (more_or r q) k) = at_end (more_or (skip e r) q) k
+closes_behind_space e (at_end (go_on r q) k) = at_end (go_on (skip e r) q) k
 closes_behind_space e (by_close stop c k) = by_close stop (skip e c) k
-closes_behind_space e (by_close (more_and r q) c k) = by_close (more_and (skip e r) q) c k
-closes_behind_space e (by_close (more_or r q) c k) = by_close (more_or (skip e r) q) c k
+closes_behind_space e (by_close (go_on r q) c k) = by_close (go_on (skip e r) q) c k
 closes_behind_space e (by_join stop o q c k) = by_join stop (skip e o) q c k
-closes_behind_space e (by_join (more_and r p) o q c k) = by_join (more_and (skip e r) p) o q c k
-closes_behind_space e (by_join (more_or r p) o q c k) = by_join (more_or (skip e r) p) o q c k
+closes_behind_space e (by_join (go_on r p) o q c k) = by_join (go_on (skip e r) p) o q c k
 
-closes_behind_and : {σ : List Await} {s w t : List ℕ} {f : Formula} → Reads And w s → IsUnit s f t → Closes σ t → Closes σ w
-closes_behind_and r u (at_end m k) = at_end (more_and r (unit_more m u)) k
-closes_behind_and r u (by_close m c k) = by_close (more_and r (unit_more m u)) c k
-closes_behind_and r u (by_join m o q c k) = by_join (more_and r (unit_more m u)) o q c k
-
-closes_behind_or : {σ : List Await} {s w t : List ℕ} {f : Formula} → Reads Or w s → IsUnit s f t → Closes σ t → Closes σ w
-closes_behind_or r u (at_end m k) = at_end (more_or r (unit_more m u)) k
-closes_behind_or r u (by_close m c k) = by_close (more_or r (unit_more m u)) c k
-closes_behind_or r u (by_join m o q c k) = by_join (more_or r (unit_more m u)) o q c k
+closes_behind_connective : {σ : List Await} {op : ConnectiveOp} {s w t : List ℕ} {f : Formula} → Reads (Connective op) w s → IsUnit s f t → Closes σ t → Closes σ w
+closes_behind_connective r u (at_end m k) = at_end (go_on r (unit_more m u)) k
+closes_behind_connective r u (by_close m c k) = by_close (go_on r (unit_more m u)) c k
+closes_behind_connective r u (by_join m o q c k) = by_join (go_on r (unit_more m u)) o q c k
 
 -- ---- a step back: what the state behind a sign accepts, the state before it accepts with the sign
 
@@ -84,8 +76,7 @@ back_need : (σ : List Await) (x : Sign) (b : ℕ) (w : List ℕ) → sign_of b 
 back_need σ (Letter c) b w e (at_after k) = at_need (by_letter (here e none)) k
 back_need σ (Constant c) b w e (at_after k) = at_need (by_constant (here e none)) k
 back_need σ Not b w e (at_need u k) = at_need (by_not (here e none) u) k
-back_need σ And b w e a = absurd a
-back_need σ Or b w e a = absurd a
+back_need σ (Connective op) b w e a = absurd a
 back_need σ Open b w e (at_need u (by_close m c k)) = at_need (by_group (here e none) (unit_more m u).1 c) k
 back_need σ Close b w e a = absurd a
 back_need σ (Quantifier q) b w e (at_part p k) = at_need (by_path (here e none) p) k
@@ -98,8 +89,7 @@ back_part : (σ : List Await) (x : Sign) (b : ℕ) (w : List ℕ) → sign_of b 
 back_part σ (Letter c) b w e a = absurd a
 back_part σ (Constant c) b w e a = absurd a
 back_part σ Not b w e a = absurd a
-back_part σ And b w e a = absurd a
-back_part σ Or b w e a = absurd a
+back_part σ (Connective op) b w e a = absurd a
 back_part σ Open b w e (at_need u (by_join m o q c k)) = at_part (by_two (here e none) (unit_more m u).1 o q.1 c) k
 back_part σ Close b w e a = absurd a
 back_part σ (Quantifier q) b w e a = absurd a
@@ -122,8 +112,7 @@ back_after : (σ : List Await) (x : Sign) (b : ℕ) (w : List ℕ) → sign_of b
 back_after σ (Letter c) b w e a = absurd a
 back_after σ (Constant c) b w e a = absurd a
 back_after σ Not b w e a = absurd a
-back_after σ And b w e (at_need u k) = at_after (closes_behind_and (here e none) u k)
-back_after σ Or b w e (at_need u k) = at_after (closes_behind_or (here e none) u k)
+back_after σ (Connective op) b w e (at_need u k) = at_after (closes_behind_connective (here e none) u k)
 back_after σ Open b w e a = absurd a
 back_after σ Close b w e a = back_close σ b w e a
 back_after σ (Quantifier q) b w e a = absurd a
@@ -178,18 +167,15 @@ live_begins s l = let z = live_accepts s (need []) l in (z.0, accepted z.1)
 
 -- ---- what the walk takes whole is a rule
 
-pub not_done : {r : List ℕ} → stopped r ≡ done → ⊥
-not_done e = zero_is_not_one cc
-
 done_step : (s : List ℕ) → ((st : State) → walk st s ≡ done → Accepts st s) → (b : ℕ) (st : State) (m : Move) → step st (sign_of b) ≡ m → moved m (stopped (b ∷ s)) (λ s'. walk s' s) ≡ done → Accepts st (b ∷ s)
-done_step s ih b st stuck e k = absurd (not_done k)
+done_step s ih b st stuck e k = cc
 done_step s ih b st (to s') e k = back st b s (subst (λ (m : Move). AcceptsBehind m s) (sym e) (ih s' k))
 
 done_accepts : (s : List ℕ) (st : State) → walk st s ≡ done → Accepts st s
-done_accepts [] (need σ) e = absurd (not_done e)
-done_accepts [] (part σ) e = absurd (not_done e)
+done_accepts [] (need σ) e = cc
+done_accepts [] (part σ) e = cc
 done_accepts [] (after []) e = at_after (at_end stop none)
-done_accepts [] (after (a ∷ σ)) e = absurd (not_done e)
+done_accepts [] (after (a ∷ σ)) e = cc
 done_accepts (b ∷ s) st e = done_step s (done_accepts s) b st (step st (sign_of b)) refl e
 
 pub done_lawful : (s : List ℕ) → walk (need []) s ≡ done → Lawful s

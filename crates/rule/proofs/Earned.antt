@@ -1,5 +1,5 @@
 -- Which fault a text earns: at most one, and one exactly if it is no rule.
-use Rattle.std.proofs.Common.{◌≡◌, ℕ, suc, ◌<◌, ◌≤◌, ◌⊎◌, List, [], ◌∷◌, length, get_or, drop, sym, refl, ap, ◌∙◌, subst, inl, inr, arith}
+use Rattle.std.proofs.Common.{◌≡◌, ℕ, suc, ◌<◌, ◌≤◌, ◌⊎◌, List, [], ◌∷◌, length, get_or, drop, refl, ap, ◌∙◌, subst, inl, inr, arith}
 use native.Mathlib.Decide.{dec_le}
 use Rattle.rule.specs.Faults.{Sized, Earns}
 use Rattle.rule.specs.Grammar.{Lawful, Reach}
@@ -8,9 +8,8 @@ use Rattle.rule.proofs.Walk.{State, need, part, after, Move, stuck, to, step, Wa
 use Rattle.rule.specs.declared.fault.RuleFault.{RuleFault}
 use Rattle.rule.specs.declared.fault.RuleFault.TheVariants.{Length, NoSign, Misplaced, Unfinished, Memory}
 use Rattle.rule.specs.declared.sign.Sign.{Sign}
-use Rattle.rule.specs.declared.sign.Sign.TheVariants.{Letter, Constant, Not, And, Or, Open, Close, Quantifier, Unary, Binary, Space, Other}
-use Rattle.rule.proofs.Cases.{zero_is_not_one}
-use Rattle.rule.proofs.Completions.{done_lawful, not_done}
+use Rattle.rule.specs.declared.sign.Sign.TheVariants.{Letter, Constant, Not, Connective, Open, Close, Quantifier, Unary, Binary, Space, Other}
+use Rattle.rule.proofs.Completions.{done_lawful}
 use Rattle.rule.proofs.Reaches.{stop_is_reach, stop_is_unlawful, lawful_reaches_its_end, one_reach}
 
 -- ---- a lawful text earns none
@@ -31,22 +30,21 @@ stop_place s r ih b (to st) e = let z = ih st e in (suc z.0, omega (arith, z.1),
 stops_at_a_place : (s r : List ℕ) (st : State) → walk st s ≡ stopped r → (n : ℕ) × (n ≤ length s) × (r ≡ drop n s)
 stops_at_a_place [] r (need σ) e = (0, omega arith, cc)
 stops_at_a_place [] r (part σ) e = (0, omega arith, cc)
-stops_at_a_place [] r (after []) e = absurd (not_done (sym e))
+stops_at_a_place [] r (after []) e = cc
 stops_at_a_place [] r (after (a ∷ σ)) e = (0, omega arith, cc)
 stops_at_a_place (b ∷ s) r st e = stop_place s r (stops_at_a_place s r) b (step st (sign_of b)) e
 
 no_sign_or_sign : (x : Sign) → (x ≡ Other) ⊎ (x ≡ Other → ⊥)
-no_sign_or_sign (Letter c) = inr (λ e. zero_is_not_one cc)
-no_sign_or_sign (Constant b) = inr (λ e. zero_is_not_one cc)
-no_sign_or_sign Not = inr (λ e. zero_is_not_one cc)
-no_sign_or_sign And = inr (λ e. zero_is_not_one cc)
-no_sign_or_sign Or = inr (λ e. zero_is_not_one cc)
-no_sign_or_sign Open = inr (λ e. zero_is_not_one cc)
-no_sign_or_sign Close = inr (λ e. zero_is_not_one cc)
-no_sign_or_sign (Quantifier q) = inr (λ e. zero_is_not_one cc)
-no_sign_or_sign (Unary op) = inr (λ e. zero_is_not_one cc)
-no_sign_or_sign (Binary op) = inr (λ e. zero_is_not_one cc)
-no_sign_or_sign Space = inr (λ e. zero_is_not_one cc)
+no_sign_or_sign (Letter c) = inr (λ e. cc)
+no_sign_or_sign (Constant b) = inr (λ e. cc)
+no_sign_or_sign Not = inr (λ e. cc)
+no_sign_or_sign (Connective op) = inr (λ e. cc)
+no_sign_or_sign Open = inr (λ e. cc)
+no_sign_or_sign Close = inr (λ e. cc)
+no_sign_or_sign (Quantifier q) = inr (λ e. cc)
+no_sign_or_sign (Unary op) = inr (λ e. cc)
+no_sign_or_sign (Binary op) = inr (λ e. cc)
+no_sign_or_sign Space = inr (λ e. cc)
 no_sign_or_sign Other = inl refl
 
 stop_earns : (text : List ℕ) (n : ℕ) → Sized text → n ≤ length text → walk (need []) text ≡ stopped (drop n text) → (e : RuleFault) × Earns text e

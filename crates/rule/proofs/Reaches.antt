@@ -5,7 +5,7 @@ use lib.Seq.{take-length}
 use Rattle.rule.specs.Grammar.{Lawful, Begins, Reach}
 use Rattle.rule.specs.Signs.{sign_of}
 use Rattle.rule.proofs.Walk.{State, need, part, after, Move, stuck, to, step, Walk, done, stopped, moved, walk}
-use Rattle.rule.proofs.Completions.{Live, LiveBehind, live_begins, not_done}
+use Rattle.rule.proofs.Completions.{Live, LiveBehind, live_begins}
 use Rattle.rule.proofs.Takes.{walk_whole}
 
 abbrev rest_of : Walk → List ℕ
@@ -50,7 +50,7 @@ module _ (s t : List ℕ) (b m : ℕ) (ih : (n : ℕ) (st : State) → n < m →
   beyond_step : (n : ℕ) (v : Move) → n < suc m →
       moved v (stopped (b ∷ s)) (λ s'. walk s' s) ≡ stopped (drop n (b ∷ s)) →
       moved v (stopped (b ∷ (take m s ++ t))) (λ s'. walk s' (take m s ++ t)) ≡ done → ⊥
-  beyond_step n stuck h e d = not_done d
+  beyond_step n stuck h e d = cc
   beyond_step zero (to s') h e d = let k : length (b ∷ s) ≤ length s = stops_within s (b ∷ s) s' e in omega arith
   beyond_step (suc n) (to s') h e d = ih n s' (omega arith) e d
 
@@ -67,7 +67,7 @@ stop_is_reach text n h e = record {
 }
 
 pub stop_is_unlawful : {text r : List ℕ} → walk (need []) text ≡ stopped r → Lawful text → ⊥
-stop_is_unlawful e z = not_done (sym e ∙ walk_whole z.1)
+stop_is_unlawful e z = let w = walk_whole z.1 in cc
 
 -- a rule's reach is its end
 pub lawful_reaches_its_end : (text : List ℕ) (n : ℕ) → Lawful text → Reach text n → n < length text → ⊥

@@ -3,7 +3,7 @@
 use Rattle.std.proofs.Common.{ℕ, List, [], ◌∷◌}
 use Rattle.rule.specs.Signs.{sign_of}
 use Rattle.rule.specs.declared.sign.Sign.{Sign}
-use Rattle.rule.specs.declared.sign.Sign.TheVariants.{Letter, Constant, Not, And, Or, Open, Close, Quantifier, Unary, Binary, Space, Other}
+use Rattle.rule.specs.declared.sign.Sign.TheVariants.{Letter, Constant, Not, Connective, Open, Close, Quantifier, Unary, Binary, Space, Other}
 
 -- what an open bracket awaits behind its first rule: ), or U or R
 pub data Await : Type 0 where
@@ -35,8 +35,7 @@ abbrev pub step_need : List Await → Sign → Move
 step_need σ (Letter c) = to (after σ)
 step_need σ (Constant b) = to (after σ)
 step_need σ Not = to (need σ)
-step_need σ And = stuck
-step_need σ Or = stuck
+step_need σ (Connective op) = stuck
 step_need σ Open = to (need (closing ∷ σ))
 step_need σ Close = stuck
 step_need σ (Quantifier q) = to (part σ)
@@ -50,8 +49,7 @@ abbrev pub step_part : List Await → Sign → Move
 step_part σ (Letter c) = stuck
 step_part σ (Constant b) = stuck
 step_part σ Not = stuck
-step_part σ And = stuck
-step_part σ Or = stuck
+step_part σ (Connective op) = stuck
 step_part σ Open = to (need (joining ∷ σ))
 step_part σ Close = stuck
 step_part σ (Quantifier q) = stuck
@@ -65,8 +63,7 @@ abbrev pub step_after : List Await → Sign → Move
 step_after σ (Letter c) = stuck
 step_after σ (Constant b) = stuck
 step_after σ Not = stuck
-step_after σ And = to (need σ)
-step_after σ Or = to (need σ)
+step_after σ (Connective op) = to (need σ)
 step_after σ Open = stuck
 step_after σ Close = close σ
 step_after σ (Quantifier q) = stuck

@@ -8,7 +8,7 @@ use Rattle.ctl.specs.declared.Unary.{Unary}
 use Rattle.ctl.specs.declared.Binary.{Binary}
 use Rattle.rule.specs.Signs.{sign_of}
 use Rattle.rule.specs.declared.sign.Sign.{Sign}
-use Rattle.rule.specs.declared.sign.Sign.TheVariants.{Letter, Constant, Not, And as AndSign, Or as OrSign, Open, Close, Quantifier as QuantifierSign, Unary as UnarySign, Binary as BinarySign, Space}
+use Rattle.rule.specs.declared.sign.Sign.TheVariants.{Letter, Constant, Not, Connective as ConnectiveSign, Open, Close, Quantifier as QuantifierSign, Unary as UnarySign, Binary as BinarySign, Space}
 
 -- s is some spaces, or none, and then t
 pub data Spaces : List ℕ → List ℕ → Type 0 where
@@ -38,12 +38,12 @@ mutual
   -- units joined by &, grouping to the left
   pub data IsTerm : List ℕ → Formula → List ℕ → Type 0 where
     by_unit : {s t : List ℕ} {f : Formula} → IsUnit s f t → IsTerm s f t
-    by_and : {s u v t : List ℕ} {f g : Formula} → IsTerm s f u → Reads AndSign u v → IsUnit v g t → IsTerm s (join And f g) t
+    by_and : {s u v t : List ℕ} {f g : Formula} → IsTerm s f u → Reads (ConnectiveSign And) u v → IsUnit v g t → IsTerm s (join And f g) t
 
   -- terms joined by |, grouping to the left
   pub data IsRule : List ℕ → Formula → List ℕ → Type 0 where
     by_term : {s t : List ℕ} {f : Formula} → IsTerm s f t → IsRule s f t
-    by_or : {s u v t : List ℕ} {f g : Formula} → IsRule s f u → Reads OrSign u v → IsTerm v g t → IsRule s (join Or f g) t
+    by_or : {s u v t : List ℕ} {f g : Formula} → IsRule s f u → Reads (ConnectiveSign Or) u v → IsTerm v g t → IsRule s (join Or f g) t
 
 -- the whole text is a rule, and f is its formula
 abbrev pub Means : List ℕ → Formula → Type 0

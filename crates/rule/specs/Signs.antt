@@ -1,10 +1,11 @@
 -- The sign that each byte is.
 use Rattle.std.specs.Prelude.{ℕ, true, false, cond, ◌&&◌, ◌==◌, nat_le}
+use Rattle.ctl.specs.declared.Connective.TheVariants.{And, Or}
 use Rattle.ctl.specs.declared.Quantifier.TheVariants.{All, Exists}
 use Rattle.ctl.specs.declared.Unary.TheVariants.{Next, Eventually, Always}
 use Rattle.ctl.specs.declared.Binary.TheVariants.{Until, Release}
 use Rattle.rule.specs.declared.sign.Sign.{Sign}
-use Rattle.rule.specs.declared.sign.Sign.TheVariants.{Letter, Constant, Not, And, Or, Open, Close, Quantifier, Unary, Binary, Space, Other}
+use Rattle.rule.specs.declared.sign.Sign.TheVariants.{Letter, Constant, Not, Connective, Open, Close, Quantifier, Unary, Binary, Space, Other}
 
 -- a to z, 0, 1, ! & | ( ) A E X F G U R and the space; every other byte is no sign
 abbrev pub sign_of : ℕ → Sign
@@ -13,8 +14,8 @@ sign_of b =
     (cond (b == 48) (Constant false)
     (cond (b == 49) (Constant true)
     (cond (b == 33) Not
-    (cond (b == 38) And
-    (cond (b == 124) Or
+    (cond (b == 38) (Connective And)
+    (cond (b == 124) (Connective Or)
     (cond (b == 40) Open
     (cond (b == 41) Close
     (cond (b == 65) (Quantifier All)

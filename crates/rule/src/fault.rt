@@ -40,15 +40,13 @@ impl RuleFault {
         ensures { result ≡ place self.now }
     {
         match self {
-            RuleFault::Length => 0,
-            RuleFault::NoSign(at) => *at,
-            RuleFault::Misplaced(at) => *at,
-            RuleFault::Unfinished(at) => *at,
-            RuleFault::Memory => 0,
+            RuleFault::Length | RuleFault::Memory => 0,
+            RuleFault::NoSign(at) | RuleFault::Misplaced(at) | RuleFault::Unfinished(at) => *at,
         }
     }
 }
 
+// The two are written by hand, since clauses name the fault that a `?` makes of them.
 impl From<AllocError> for RuleFault {
     ghost from_gives = { λ _ r. r ≡ Memory };
 

@@ -2,16 +2,15 @@
 ghost use Rattle.std.specs.Prelude.{◌≡◌};
 ghost use Rattle.rule.specs.Signs.{sign_of};
 
-use ctl::{Binary, Quantifier, Unary};
+use ctl::{Binary, Connective, Quantifier, Unary};
 
 // What a byte is in a rule text: one of the signs, or none of them.
-#[derive(Clone, Copy)]
+#[derive(Clone, Copy, PartialEq, Eq, Debug)]
 pub enum Sign {
     Letter(u8),
     Constant(bool),
     Not,
-    And,
-    Or,
+    Connective(Connective),
     Open,
     Close,
     Quantifier(Quantifier),
@@ -21,27 +20,28 @@ pub enum Sign {
     Other,
 }
 
-// The sign that `byte` is.
-pub fn sign_of(byte: u8) -> Sign
-    ensures { result ≡ sign_of byte }
-{
-    match byte as char {
-        'a'..='z' => Sign::Letter(byte),
-        '0' => Sign::Constant(false),
-        '1' => Sign::Constant(true),
-        '!' => Sign::Not,
-        '&' => Sign::And,
-        '|' => Sign::Or,
-        '(' => Sign::Open,
-        ')' => Sign::Close,
-        'A' => Sign::Quantifier(Quantifier::All),
-        'E' => Sign::Quantifier(Quantifier::Exists),
-        'X' => Sign::Unary(Unary::Next),
-        'F' => Sign::Unary(Unary::Eventually),
-        'G' => Sign::Unary(Unary::Always),
-        'U' => Sign::Binary(Binary::Until),
-        'R' => Sign::Binary(Binary::Release),
-        ' ' => Sign::Space,
-        _ => Sign::Other,
+impl From<u8> for Sign {
+    ghost from_gives = { λ byte sign. sign ≡ sign_of byte };
+
+    fn from(byte: u8) -> Self {
+        match byte as char {
+            'a'..='z' => Sign::Letter(byte),
+            '0' => Sign::Constant(false),
+            '1' => Sign::Constant(true),
+            '!' => Sign::Not,
+            '&' => Sign::Connective(Connective::And),
+            '|' => Sign::Connective(Connective::Or),
+            '(' => Sign::Open,
+            ')' => Sign::Close,
+            'A' => Sign::Quantifier(Quantifier::All),
+            'E' => Sign::Quantifier(Quantifier::Exists),
+            'X' => Sign::Unary(Unary::Next),
+            'F' => Sign::Unary(Unary::Eventually),
+            'G' => Sign::Unary(Unary::Always),
+            'U' => Sign::Binary(Binary::Until),
+            'R' => Sign::Binary(Binary::Release),
+            ' ' => Sign::Space,
+            _ => Sign::Other,
+        }
     }
 }

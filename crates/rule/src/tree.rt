@@ -3,7 +3,7 @@ ghost use Rattle.std.specs.Prelude.{◌≡◌, IfOk};
 ghost use Rattle.ctl.specs.Formula.{join, path, negation, negation_part};
 ghost use Rattle.rule.specs.Tree.{formula, part_formula, OneToOne};
 
-use crate::opposite::{opposite_binary, opposite_connective, opposite_quantifier, opposite_unary};
+use crate::opposite::Opposite;
 use ctl::{Binary, Connective, Quantifier, Unary};
 use std::alloc::{AllocError, Global};
 
@@ -53,23 +53,23 @@ impl Rule {
     pub fn negate(&mut self)
         ensures { formula self.new ≡ negation (formula self.old) }
     {
-        let old = std::mem::replace(self, Rule::Constant(true));
-        *self = match old {
-            Rule::Constant(value) => Rule::Constant(!value),
-            Rule::Literal(carried, mark) => Rule::Literal(!carried, mark),
-            Rule::Join(op, mut left, mut right) => {
+        match self {
+            Rule::Constant(value) => *value = !*value,
+            Rule::Literal(carried, _) => *carried = !*carried,
+            Rule::Join(op, left, right) => {
+                *op = op.opposite();
                 left.negate();
                 right.negate();
-                Rule::Join(opposite_connective(op), left, right)
             }
-            Rule::Path(quantifier, mut asked) => {
+            Rule::Path(quantifier, asked) => {
+                *quantifier = quantifier.opposite();
                 asked.negate();
-                Rule::Path(opposite_quantifier(quantifier), asked)
             }
-        };
+        }
     }
 
-    // The negation as a tree of its own.
+    // The negation as a tree of its own. It is no clone that is then negated: what a derived `clone`
+    // gives of a type that leads back to itself is not known to a proof.
     #[cycle(negated_negated)]
     pub fn negated(&self, heap: Global) -> Result<Rule, AllocError>
         ensures { IfOk result (λ n. formula n ≡ negation (formula self.now)) }
@@ -80,11 +80,11 @@ impl Rule {
             Rule::Join(op, left, right) => {
                 let left = left.negated(heap)?;
                 let right = right.negated(heap)?;
-                Rule::joined(heap, opposite_connective(*op), left, right)
+                Rule::joined(heap, op.opposite(), left, right)
             }
             Rule::Path(quantifier, asked) => {
                 let asked = asked.negated(heap)?;
-                Rule::quantified(heap, opposite_quantifier(*quantifier), asked)
+                Rule::quantified(heap, quantifier.opposite(), asked)
             }
         }
     }
@@ -98,11 +98,11 @@ impl PathPart {
     {
         match self {
             PathPart::One(op, rule) => {
-                *op = opposite_unary(*op);
+                *op = op.opposite();
                 rule.negate();
             }
             PathPart::Two(op, left, right) => {
-                *op = opposite_binary(*op);
+                *op = op.opposite();
                 left.negate();
                 right.negate();
             }
@@ -115,11 +115,11 @@ impl PathPart {
         ensures { IfOk result (λ n. part_formula n ≡ negation_part (part_formula self.now)) }
     {
         match self {
-            PathPart::One(op, rule) => Ok(PathPart::One(opposite_unary(*op), rule.negated(heap)?)),
+            PathPart::One(op, rule) => Ok(PathPart::One(op.opposite(), rule.negated(heap)?)),
             PathPart::Two(op, left, right) => {
                 let left = left.negated(heap)?;
                 let right = right.negated(heap)?;
-                Ok(PathPart::Two(opposite_binary(*op), left, right))
+                Ok(PathPart::Two(op.opposite(), left, right))
             }
         }
     }

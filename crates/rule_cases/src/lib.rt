@@ -573,16 +573,10 @@ pub static ROOTS: [Root; 12] = [
 ];
 
 // The text of a nest.
-pub fn text_of(heap: Global, nest: &Nest) -> Result<Vec<u8>, AllocError> {
-    let mut text = Vec::new(heap);
-    for _ in 0..nest.times {
-        text.extend_from_slice(nest.open.as_bytes())?;
-    }
-    text.extend_from_slice(nest.middle.as_bytes())?;
-    for _ in 0..nest.times {
-        text.extend_from_slice(nest.close.as_bytes())?;
-    }
-    Ok(text)
+pub fn text_of(heap: Global, nest: &Nest) -> Result<String, AllocError> {
+    let open = nest.open.repeat(heap, nest.times)?;
+    let close = nest.close.repeat(heap, nest.times)?;
+    format!(in heap; "{open}{}{close}", nest.middle)
 }
 
 // What a byte alone is refused with.

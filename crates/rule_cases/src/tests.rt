@@ -1,36 +1,43 @@
 // The reader over the tables.
 use crate::{CASES, NESTS, PLACES, ROOTS, alone, text_of};
 use ctl::{Connective, Quantifier};
-use rule::Rule;
+use rule::{Rule, RuleFault};
 use rule_reader::read_rule;
 use std::alloc::Global;
 use std::test::Fail;
 
-// The number and place that `text` is refused with; 0 and 0 for want of memory, which no table has.
-fn refusal(heap: Global, text: &[u8]) -> Option<(u8, usize)> {
+// The number and place that `text` is refused with, if it is. Want of memory, which has no number, is
+// an error of the test.
+fn refusal(heap: Global, text: &[u8]) -> Result<Option<(u8, usize)>, RuleFault> {
     match read_rule(heap, text) {
-        Ok(_) => None,
-        Err(fault) => Some((fault.number().unwrap_or(0), fault.place())),
+        Ok(_) => Ok(None),
+        Err(fault) => Ok(Some((fault.number().ok_or(fault)?, fault.place()))),
     }
 }
 
 #[test]
-fn each_text_is_answered_as_the_table_says(rt: HostRuntime) {
+fn each_text_is_answered_as_the_table_says(rt: HostRuntime) -> Result<(), Fail> {
     for case in &CASES {
         assert_eq!(rt;
-            refusal(rt.alloc(), case.text.as_bytes()),
+            refusal(rt.alloc(), case.text.as_bytes())?,
             case.refusal,
             "{}",
             case.text
         );
     }
+    Ok(())
 }
 
 #[test]
 fn nesting_is_read_to_the_last_byte_of_a_rule(rt: HostRuntime) -> Result<(), Fail> {
     for nest in &NESTS {
         let text = text_of(rt.alloc(), nest)?;
-        assert_eq!(rt; refusal(rt.alloc(), &text), nest.refusal, "{}", nest.open);
+        assert_eq!(rt;
+            refusal(rt.alloc(), text.as_bytes())?,
+            nest.refusal,
+            "{}",
+            nest.open
+        );
     }
     Ok(())
 }
@@ -42,7 +49,7 @@ fn each_sign_is_refused_where_it_is_misplaced(rt: HostRuntime) -> Result<(), Fai
             let mut text = place.beginning.as_bytes().to_vec(rt.alloc())?;
             text.push(sign)?;
             assert_eq!(rt;
-                refusal(rt.alloc(), &text),
+                refusal(rt.alloc(), &text)?,
                 Some((8, place.beginning.len())),
                 "{}",
                 place.beginning
@@ -53,10 +60,11 @@ fn each_sign_is_refused_where_it_is_misplaced(rt: HostRuntime) -> Result<(), Fai
 }
 
 #[test]
-fn every_byte_alone_is_answered(rt: HostRuntime) {
+fn every_byte_alone_is_answered(rt: HostRuntime) -> Result<(), Fail> {
     for byte in 0..=255 {
-        assert_eq!(rt; refusal(rt.alloc(), &[byte]), alone(byte));
+        assert_eq!(rt; refusal(rt.alloc(), &[byte])?, alone(byte));
     }
+    Ok(())
 }
 
 // What stands at the root of a tree.

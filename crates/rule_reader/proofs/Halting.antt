@@ -1,16 +1,24 @@
 -- A reading that has taken some signs stops where the reading of what follows stops.
-use Rattle.std.proofs.Common.{◌≡◌, ℕ, List, [], ◌∷◌, refl, ◌∙◌, subst}
+use Rattle.std.proofs.Common.{◌≡◌, ℕ, List, [], ◌∷◌, Result, Err, IsErrAnd, refl, ap, ◌∙◌, subst}
+use Rattle.std.proofs.lemmas.Result.{err_from_is_err_and}
 use Rattle.ctl.specs.Formula.{Formula}
 use Rattle.ctl.specs.declared.Binary.{Binary as BinaryOp}
+use Rattle.ctl.specs.declared.Connective.{Connective as ConnectiveOp}
+use Rattle.ctl.specs.declared.Connective.TheVariants.{And, Or}
 use Rattle.ctl.specs.declared.Quantifier.{Quantifier as QuantifierOp}
 use Rattle.ctl.specs.declared.Unary.{Unary as UnaryOp}
-use Rattle.rule.specs.Grammar.{Reads, IsTerm, IsRule}
+use Rattle.rule.specs.Grammar.{Reads, IsRule}
+use Rattle.rule_reader.specs.Chains.{IsChain}
 use Rattle.rule.proofs.Walk.{Await, closing, joining, State, need, part, after, walk}
 use Rattle.rule_reader.specs.Halts.{Faulted, Stops, Halts}
 use Rattle.rule.specs.declared.fault.RuleFault.{RuleFault}
 use Rattle.rule.specs.declared.fault.RuleFault.TheVariants.{Length, NoSign, Misplaced, Unfinished, Memory}
-use Rattle.rule.specs.declared.sign.Sign.TheVariants.{Not, And, Or, Open, Quantifier, Unary, Binary}
+use Rattle.rule.specs.declared.sign.Sign.TheVariants.{Not, Connective, Open, Quantifier, Unary, Binary}
 use Rattle.rule.proofs.Takes.{walk_reads, walk_term, walk_rule}
+
+-- what the exit of a `?` answers is the fault that it was given
+pub refused : {A : Type 0} {e : RuleFault} (r : Result A RuleFault) → IsErrAnd r (λ x. x ≡ e) → r ≡ Err e
+refused r h = let p = err_from_is_err_and r h in p.1 ∙ ap Err p.2
 
 faulted_map : (P Q : ℕ → Type 0) (text : List ℕ) (e : RuleFault) → ((p : ℕ) → P p → Q p) → Faulted P text e → Faulted Q text e
 faulted_map P Q text Length m h = h
@@ -25,6 +33,10 @@ pub halts_from : (e : RuleFault) (s u : List ℕ) {T U : List ℕ} (k k' : List 
 halts_from e s u {T} {U} k k' g same w h =
     let here : Halts k' u T e = subst (λ (V : List ℕ). Halts k' u V e) same h in
     faulted_map (Stops k' u T) (Stops k s T) T e (λ p stops σ. w σ ∙ stops (g σ)) here
+
+walk_chain : (op : ConnectiveOp) (s t : List ℕ) (f : Formula) → IsChain op s f t → (σ : List Await) → walk (need σ) s ≡ walk (after σ) t
+walk_chain And s t f d σ = walk_term d σ
+walk_chain Or s t f d σ = walk_rule d σ
 
 module _ (e : RuleFault) {T U s u : List ℕ} (same : U ≡ T) where
   pub behind_not : Reads Not s u → Halts need u U e → Halts need s T e
@@ -51,11 +63,9 @@ module _ (e : RuleFault) {T U s u v : List ℕ} {f : Formula} (same : U ≡ T) w
   behind_left r d = halts_from e s v part (λ σ. after (joining ∷ σ)) (λ σ. σ) same
       (λ σ. walk_reads r (part σ) (need (joining ∷ σ)) refl ∙ walk_rule d (joining ∷ σ))
 
-  pub behind_and : IsTerm s f u → Reads And u v → Halts need v U e → Halts need s T e
-  behind_and d r = halts_from e s v need need (λ σ. σ) same (λ σ. walk_term d σ ∙ walk_reads r (after σ) (need σ) refl)
-
-  pub behind_or : IsRule s f u → Reads Or u v → Halts need v U e → Halts need s T e
-  behind_or d r = halts_from e s v need need (λ σ. σ) same (λ σ. walk_rule d σ ∙ walk_reads r (after σ) (need σ) refl)
+pub behind_connective : (e : RuleFault) {T U : List ℕ} (s : List ℕ) {u v : List ℕ} (op : ConnectiveOp) (f : Formula) → U ≡ T →
+    IsChain op s f u → Reads (Connective op) u v → Halts need v U e → Halts need s T e
+behind_connective e s {u} {v} op f same d r = halts_from e s v need need (λ σ. σ) same (λ σ. walk_chain op s u f d σ ∙ walk_reads r (after σ) (need σ) refl)
 
 module _ (e : RuleFault) {T U s u v w : List ℕ} {f : Formula} {op : BinaryOp} (same : U ≡ T) where
   pub behind_binary : Reads Open s u → IsRule u f v → Reads (Binary op) v w → Halts need w U e → Halts part s T e
@@ -70,6 +80,3 @@ module _ (e : RuleFault) {T U s u v w : List ℕ} {f : Formula} {op : BinaryOp} 
 -- a whole text: its rule is followed by something, or is itself cut short
 pub behind_rule : (e : RuleFault) {T U s u : List ℕ} {f : Formula} → U ≡ T → IsRule s f u → Halts (λ _. after []) u U e → Halts (λ _. need []) s T e
 behind_rule e {s = s} {u = u} same d = halts_from e s u (λ _. need []) (λ _. after []) (λ σ. σ) same (λ σ. walk_rule d [])
-
-pub in_rule : (e : RuleFault) (s T : List ℕ) → Halts need s T e → Halts (λ _. need []) s T e
-in_rule e s T = halts_from e s s (λ _. need []) need (λ _. []) refl (λ σ. refl)

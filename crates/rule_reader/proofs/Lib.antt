@@ -1,3 +1,4 @@
+pub mod Chains
 pub mod Places
 pub mod Halting
 pub mod Answered

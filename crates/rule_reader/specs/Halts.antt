@@ -1,12 +1,13 @@
 -- Where a reader stops, said by the walk over signs. It is a device of the proofs: only the private contracts of the reader speak of
 -- it, and no public contract does.
 use Rattle.std.specs.Prelude.{◌≡◌, ℕ, ◌<◌, List, [], ◌∷◌, length, drop, Some, None, Option, ◌≢◌, slice_index}
+use Rattle.ctl.specs.declared.Connective.TheVariants.{And, Or}
 use Rattle.rule.proofs.Walk.{Await, State, stopped, walk}
 use Rattle.rule.specs.Signs.{sign_of}
 use Rattle.rule.specs.declared.fault.RuleFault.{RuleFault}
 use Rattle.rule.specs.declared.fault.RuleFault.TheVariants.{Length, NoSign, Misplaced, Unfinished, Memory}
 use Rattle.rule.specs.declared.sign.Sign.{Sign}
-use Rattle.rule.specs.declared.sign.Sign.TheVariants.{And, Or, Other}
+use Rattle.rule.specs.declared.sign.Sign.TheVariants.{Connective, Other}
 
 -- the sign at the front of a text
 abbrev pub first : List ℕ → Option Sign
@@ -19,7 +20,7 @@ Clear x t = first t ≡ Some x → ⊥
 
 -- no rule goes on at the front
 abbrev pub Ended : List ℕ → Type 0
-Ended t = Clear And t × Clear Or t
+Ended t = Clear (Connective And) t × Clear (Connective Or) t
 
 -- e is the fault of a reader that stops at a place of which P holds
 abbrev pub Faulted : (ℕ → Type 0) → List ℕ → RuleFault → Type 0

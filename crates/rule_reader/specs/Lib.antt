@@ -1,2 +1,3 @@
 pub mod Halts
 pub mod Ahead
+pub mod Chains

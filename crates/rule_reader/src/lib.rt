@@ -25,9 +25,8 @@ pub fn read_rule(heap: Global, text: &[u8]) -> Result<Rule, RuleFault>
     ensures reads { MatchResult result (λ f. Sized text.now × Means text.now (formula f)) (λ e. (e ≡ Memory) ⊎ Earns text.now e) }
     ensures exactly { MatchResult result (λ _. Taken text.now) (λ e. (e ≡ Memory) ⊎ (Taken text.now → ⊥)) }
 {
-    if text.len() == 0 || text.len() > LONGEST {
+    if text.is_empty() || text.len() > LONGEST {
         return Err(RuleFault::Length);
     }
-    let mut reader = Reader::new(text);
-    reader.whole(heap)
+    Reader::new(text).whole(heap)
 }

@@ -4,5 +4,5 @@ use Rattle.rule_reader.proofs.read_rule.Goals as goal
 
 pub returns : goal.returns
 returns c =
-    let exact = answer_is_exact c.whole.result (omega arith, omega arith) c.new-reader.ensures.same c.new-reader.ensures.spaces c.whole.ensures.reads in
+    let exact = answer_is_exact c.whole.result (grind arith, omega arith) c.new.ensures.same c.new.ensures.spaces c.whole.ensures.reads in
     record { reads = exact; exactly = exact_is_decisive c.whole.result _ exact }

@@ -1,12 +1,13 @@
-// The readings of units, path parts, terms and rules, which call each other as the grammar does. Each
-// takes what it can, and stands behind it; a refusal is at the place where no rule could go on.
-ghost use Rattle.std.specs.Prelude.{◌≡◌, ◌≤◌, [], ◌∷◌, MatchResult};
-ghost use Rattle.rule_reader.specs.Ahead.{bytes, ahead};
-ghost use Rattle.rule.specs.Grammar.{Reads, IsUnit, IsPathPart, IsTerm, IsRule, Means};
+// The readings of units, path parts and rules, which call each other as the grammar does. Each takes
+// what it can, and stands behind it; a refusal is at the place where no rule could go on.
+ghost use Rattle.std.specs.Prelude.{◌≡◌, [], ◌∷◌, MatchResult};
+ghost use Rattle.rule_reader.specs.Ahead.{ahead, Onward, HaltsAhead};
+ghost use Rattle.rule_reader.specs.Chains.{IsOperand, IsChain, OperandEnded};
+ghost use Rattle.rule_reader.specs.Halts.{Clear, Ended};
+ghost use Rattle.rule.specs.Grammar.{Reads, IsUnit, IsPathPart, IsRule, Means};
 ghost use Rattle.rule.specs.Tree.{formula, part_formula};
 ghost use Rattle.rule.proofs.Walk.{closing, joining, need, part, after};
-ghost use Rattle.rule_reader.specs.Halts.{Clear, Ended, Halts};
-ghost use Rattle.rule.specs.declared.sign.Sign.TheVariants.{And, Close, Binary as BinarySign};
+ghost use Rattle.rule.specs.declared.sign.Sign.TheVariants.{Connective as ConnectiveSign, Close, Binary as BinarySign};
 
 use crate::reader::Reader;
 use ctl::{Binary, Connective};
@@ -18,77 +19,77 @@ use std::alloc::Global;
 impl<'a> Reader<'a> {
     // The rule that all of the text ahead is.
     pub(crate) fn whole(&mut self, heap: Global) -> Result<Rule, RuleFault>
-        ensures reads { MatchResult result (λ f. Means (ahead self.old) (formula f)) (λ e. Halts (λ _. need []) (ahead self.old) (bytes self.old) e) }
+        ensures reads { MatchResult result (λ f. Means (ahead self.old) (formula f)) (HaltsAhead (λ _. need []) self.old) }
     {
         let rule = self.rule(heap)?;
         self.end()?;
         Ok(rule)
     }
 
-    // Terms joined by |.
-    #[cycle(path_part_rule_term_unit)]
+    // Terms joined by |, each of them units joined by &.
+    #[cycle(reading)]
     fn rule(&mut self, heap: Global) -> Result<Rule, RuleFault>
-        ensures same { bytes self.new ≡ bytes self.old }
-        ensures onward { self.old.at ≤ self.new.at }
-        ensures reads { MatchResult result (λ f. IsRule (ahead self.old) (formula f) (ahead self.new) × Ended (ahead self.new)) (λ e. Halts need (ahead self.old) (bytes self.old) e) }
+        ensures onward { Onward self.old self.new }
+        ensures reads { MatchResult result (λ f. IsRule (ahead self.old) (formula f) (ahead self.new) × Ended (ahead self.new)) (HaltsAhead need self.old) }
     {
-        let mut left = self.term(heap)?;
-        while let Some(Sign::Or) = self.next() {
+        self.chain(heap, Connective::Or)
+    }
+
+    // Operands joined by `op`.
+    #[cycle(reading)]
+    fn chain(&mut self, heap: Global, op: Connective) -> Result<Rule, RuleFault>
+        ensures onward { Onward self.old self.new }
+        ensures reads { MatchResult result (λ f. IsChain op (ahead self.old) (formula f) (ahead self.new) × OperandEnded op (ahead self.new) × Clear (ConnectiveSign op) (ahead self.new)) (HaltsAhead need self.old) }
+    {
+        let mut left = self.operand(heap, op)?;
+        while self.peek() == Some(Sign::Connective(op)) {
             self.pass();
-            let right = self.term(heap)?;
-            left = Rule::joined(heap, Connective::Or, left, right)?;
+            let right = self.operand(heap, op)?;
+            left = Rule::joined(heap, op, left, right)?;
         }
         Ok(left)
     }
 
-    // Units joined by &.
-    #[cycle(path_part_rule_term_unit)]
-    fn term(&mut self, heap: Global) -> Result<Rule, RuleFault>
-        ensures same { bytes self.new ≡ bytes self.old }
-        ensures onward { self.old.at ≤ self.new.at }
-        ensures reads { MatchResult result (λ f. IsTerm (ahead self.old) (formula f) (ahead self.new) × Clear And (ahead self.new)) (λ e. Halts need (ahead self.old) (bytes self.old) e) }
+    // What `op` joins: & units, | terms.
+    #[cycle(reading)]
+    fn operand(&mut self, heap: Global, op: Connective) -> Result<Rule, RuleFault>
+        ensures onward { Onward self.old self.new }
+        ensures reads { MatchResult result (λ f. IsOperand op (ahead self.old) (formula f) (ahead self.new) × OperandEnded op (ahead self.new)) (HaltsAhead need self.old) }
     {
-        let mut left = self.unit(heap)?;
-        while let Some(Sign::And) = self.next() {
-            self.pass();
-            let right = self.unit(heap)?;
-            left = Rule::joined(heap, Connective::And, left, right)?;
+        match op {
+            Connective::And => self.unit(heap),
+            Connective::Or => self.chain(heap, Connective::And),
         }
-        Ok(left)
     }
 
     // A letter, 0 or 1, a negated unit, a rule in brackets, or A or E and a path part.
-    #[cycle(path_part_rule_term_unit)]
+    #[cycle(reading)]
     fn unit(&mut self, heap: Global) -> Result<Rule, RuleFault>
-        ensures same { bytes self.new ≡ bytes self.old }
-        ensures onward { self.old.at ≤ self.new.at }
-        ensures reads { MatchResult result (λ f. IsUnit (ahead self.old) (formula f) (ahead self.new)) (λ e. Halts need (ahead self.old) (bytes self.old) e) }
+        ensures onward { Onward self.old self.new }
+        ensures reads { MatchResult result (λ f. IsUnit (ahead self.old) (formula f) (ahead self.new)) (HaltsAhead need self.old) }
     {
-        let Some(sign) = self.next() else {
-            return Err(self.fault());
-        };
-        match sign {
-            Sign::Letter(mark) => {
+        match self.peek() {
+            Some(Sign::Letter(mark)) => {
                 self.pass();
                 Ok(Rule::Literal(true, mark))
             }
-            Sign::Constant(value) => {
+            Some(Sign::Constant(value)) => {
                 self.pass();
                 Ok(Rule::Constant(value))
             }
-            Sign::Not => {
+            Some(Sign::Not) => {
                 self.pass();
                 let mut rule = self.unit(heap)?;
                 rule.negate();
                 Ok(rule)
             }
-            Sign::Open => {
+            Some(Sign::Open) => {
                 self.pass();
                 let group = self.rule(heap)?;
                 self.close()?;
                 Ok(group)
             }
-            Sign::Quantifier(quantifier) => {
+            Some(Sign::Quantifier(quantifier)) => {
                 self.pass();
                 let asked = self.path_part(heap)?;
                 Ok(Rule::quantified(heap, quantifier, asked)?)
@@ -98,22 +99,18 @@ impl<'a> Reader<'a> {
     }
 
     // X, F or G and a unit, or in brackets a rule, U or R, and a rule.
-    #[cycle(path_part_rule_term_unit)]
+    #[cycle(reading)]
     fn path_part(&mut self, heap: Global) -> Result<PathPart, RuleFault>
-        ensures same { bytes self.new ≡ bytes self.old }
-        ensures onward { self.old.at ≤ self.new.at }
-        ensures reads { MatchResult result (λ x. IsPathPart (ahead self.old) (part_formula x) (ahead self.new)) (λ e. Halts part (ahead self.old) (bytes self.old) e) }
+        ensures onward { Onward self.old self.new }
+        ensures reads { MatchResult result (λ x. IsPathPart (ahead self.old) (part_formula x) (ahead self.new)) (HaltsAhead part self.old) }
     {
-        let Some(sign) = self.next() else {
-            return Err(self.fault());
-        };
-        match sign {
-            Sign::Unary(op) => {
+        match self.peek() {
+            Some(Sign::Unary(op)) => {
                 self.pass();
                 let rule = self.unit(heap)?;
                 Ok(PathPart::One(op, rule))
             }
-            Sign::Open => {
+            Some(Sign::Open) => {
                 self.pass();
                 let left = self.rule(heap)?;
                 let op = self.binary()?;
@@ -128,15 +125,11 @@ impl<'a> Reader<'a> {
     // U or R, behind a rule.
     fn binary(&mut self) -> Result<Binary, RuleFault>
         requires { Ended (ahead self.old) }
-        ensures same { bytes self.new ≡ bytes self.old }
-        ensures onward { self.old.at ≤ self.new.at }
-        ensures reads { MatchResult result (λ op. Reads (BinarySign op) (ahead self.old) (ahead self.new)) (λ e. Halts (λ σ. after (joining ∷ σ)) (ahead self.old) (bytes self.old) e) }
+        ensures onward { Onward self.old self.new }
+        ensures reads { MatchResult result (λ op. Reads (BinarySign op) (ahead self.old) (ahead self.new)) (HaltsAhead (λ σ. after (joining ∷ σ)) self.old) }
     {
-        let Some(sign) = self.next() else {
-            return Err(self.fault());
-        };
-        match sign {
-            Sign::Binary(op) => {
+        match self.peek() {
+            Some(Sign::Binary(op)) => {
                 self.pass();
                 Ok(op)
             }
@@ -147,15 +140,11 @@ impl<'a> Reader<'a> {
     // The bracket that closes, behind a rule.
     fn close(&mut self) -> Result<(), RuleFault>
         requires { Ended (ahead self.old) }
-        ensures same { bytes self.new ≡ bytes self.old }
-        ensures onward { self.old.at ≤ self.new.at }
-        ensures reads { MatchResult result (λ _. Reads Close (ahead self.old) (ahead self.new)) (λ e. Halts (λ σ. after (closing ∷ σ)) (ahead self.old) (bytes self.old) e) }
+        ensures onward { Onward self.old self.new }
+        ensures reads { MatchResult result (λ _. Reads Close (ahead self.old) (ahead self.new)) (HaltsAhead (λ σ. after (closing ∷ σ)) self.old) }
     {
-        let Some(sign) = self.next() else {
-            return Err(self.fault());
-        };
-        match sign {
-            Sign::Close => {
+        match self.peek() {
+            Some(Sign::Close) => {
                 self.pass();
                 Ok(())
             }
@@ -166,9 +155,9 @@ impl<'a> Reader<'a> {
     // The end of the text, behind a rule.
     fn end(&self) -> Result<(), RuleFault>
         requires { Ended (ahead self.now) }
-        ensures { MatchResult result (λ _. ahead self.now ≡ []) (λ e. Halts (λ _. after []) (ahead self.now) (bytes self.now) e) }
+        ensures { MatchResult result (λ _. ahead self.now ≡ []) (HaltsAhead (λ _. after []) self.now) }
     {
-        match self.next() {
+        match self.peek() {
             None => Ok(()),
             Some(_) => Err(self.fault()),
         }

@@ -1,6 +1,5 @@
-use Rattle.std.proofs.Common.{refl, arith}
 use Rattle.rule_reader.proofs.Places.{reads_at_place}
 use Rattle.rule_reader.proofs.reader.Reader.pass.Goals as goal
 
-pub returns : goal.returns
-returns c = record { same = refl; onward = omega arith; reads = λ x e. reads_at_place _ _ c.requires c.past_spaces-self.ensures.spaces e }
+pub returns-clause-reads : goal.returns-clause-reads
+returns-clause-reads c = λ x e. reads_at_place c.args.self.now.text.now _ _ c.requires c.leading_spaces.ensures.spaces e
