@@ -94,10 +94,7 @@ fn main(rt: HostRuntime) -> anyhow::Result<()> {
     }
     println!(rt;
         "models {} rules {} bounds compared {} differences {}",
-        tally.models,
-        tally.rules,
-        tally.bounds,
-        tally.differences
+        tally.models, tally.rules, tally.bounds, tally.differences
     )?;
     Ok(())
 }

@@ -2,10 +2,10 @@
 #![tactic(auto)]
 
 use anyhow::anyhow;
-use ctl::{Binary, Connective, Quantifier, Unary, Verdict};
-use model::Model;
+use ctl::{Binary, Connective, Quantifier, Unary};
 use rows::row_model::RowModel;
 use rule::tree::{PathPart, Rule};
+use search::budget::AboveBudget;
 use std::alloc::{AllocError, Global};
 use table::asked::keep;
 use table::kept::Table;
@@ -13,33 +13,25 @@ use verdict::judged::{Judgement, judge};
 
 const ROWS: &[u8] = b"*n>1\n-c>2\n-o>0,3\n-f>0\n";
 
-fn word(verdict: Verdict) -> &'static str {
-    match verdict {
-        Verdict::Holds => "holds",
-        Verdict::Fails => "fails",
-        Verdict::Undecided => "undecided",
-    }
+// The letter, of a state that carries it.
+fn letter(mark: u8) -> Rule {
+    Rule::Literal(true, mark)
 }
 
-fn under(heap: Global, quantifier: Quantifier, part: PathPart) -> Result<Rule, AllocError> {
-    Ok(Rule::Path(quantifier, Box::new(heap, part)?))
-}
-
-fn both_or_one(heap: Global, op: Connective, left: Rule, right: Rule) -> Result<Rule, AllocError> {
-    let left = Box::new(heap, left)?;
-    let right = Box::new(heap, right)?;
-    Ok(Rule::Join(op, left, right))
+// A path part that asks F of a letter, under A or E.
+fn eventually(heap: Global, quantifier: Quantifier, mark: u8) -> Result<Rule, AllocError> {
+    Rule::quantified(
+        heap,
+        quantifier,
+        PathPart::One(Unary::Eventually, letter(mark)),
+    )
 }
 
 // AG(!c|AF o)
 fn answered(heap: Global) -> Result<Rule, AllocError> {
-    let then = under(
-        heap,
-        Quantifier::All,
-        PathPart::One(Unary::Eventually, Rule::Literal(true, b'o')),
-    )?;
-    let or = both_or_one(heap, Connective::Or, Rule::Literal(false, b'c'), then)?;
-    under(heap, Quantifier::All, PathPart::One(Unary::Always, or))
+    let then = eventually(heap, Quantifier::All, b'o')?;
+    let or = Rule::joined(heap, Connective::Or, Rule::Literal(false, b'c'), then)?;
+    Rule::quantified(heap, Quantifier::All, PathPart::One(Unary::Always, or))
 }
 
 fn judged(
@@ -48,7 +40,7 @@ fn judged(
     rule: &Rule,
     k: u16,
     limit: u32,
-) -> Result<Option<Judgement>, AllocError> {
+) -> Result<Result<Judgement, AboveBudget>, AllocError> {
     let negation = rule.negated(heap)?;
     Ok(judge(table, rule, &negation, k, limit))
 }
@@ -56,13 +48,18 @@ fn judged(
 fn tell(rt: HostRuntime, name: &str, table: &Table, rule: &Rule) -> anyhow::Result<()> {
     for k in 0..5u16 {
         match judged(rt.alloc(), table, rule, k, 1000)? {
-            Some(j) => {
-                let said = word(j.verdict);
-                let looks = j.looks;
-                println!(rt; "{name} at {k}: {said} {looks}")?;
-            }
-            None => println!(rt; "{name} at {k}: want of looks")?,
+            Ok(j) => println!(rt; "{name} at {k}: {} {}", j.verdict, j.looks)?,
+            Err(AboveBudget) => println!(rt; "{name} at {k}: want of looks")?,
         }
+    }
+    Ok(())
+}
+
+// Is the rule answered at bound 3 within the limit?
+fn tell_limit(rt: HostRuntime, table: &Table, rule: &Rule, limit: u32) -> anyhow::Result<()> {
+    match judged(rt.alloc(), table, rule, 3, limit)? {
+        Ok(_) => println!(rt; "limit {limit}: answered")?,
+        Err(AboveBudget) => println!(rt; "limit {limit}: want of looks")?,
     }
     Ok(())
 }
@@ -78,35 +75,21 @@ fn main(rt: HostRuntime) -> anyhow::Result<()> {
     };
     let first = answered(heap)?;
     tell(rt, "AG(!c|AF o)", &table, &first)?;
-    let second = under(
-        heap,
-        Quantifier::Exists,
-        PathPart::One(Unary::Eventually, Rule::Literal(true, b'f')),
+    tell(
+        rt,
+        "EF f",
+        &table,
+        &eventually(heap, Quantifier::Exists, b'f')?,
     )?;
-    tell(rt, "EF f", &table, &second)?;
-    let third = under(
-        heap,
-        Quantifier::All,
-        PathPart::One(Unary::Eventually, Rule::Literal(true, b'f')),
+    tell(
+        rt,
+        "AF f",
+        &table,
+        &eventually(heap, Quantifier::All, b'f')?,
     )?;
-    tell(rt, "AF f", &table, &third)?;
-    let fourth = under(
-        heap,
-        Quantifier::Exists,
-        PathPart::Two(
-            Binary::Release,
-            Rule::Literal(true, b'o'),
-            Rule::Literal(true, b'n'),
-        ),
-    )?;
+    let released = PathPart::Two(Binary::Release, letter(b'o'), letter(b'n'));
+    let fourth = Rule::quantified(heap, Quantifier::Exists, released)?;
     tell(rt, "E(o R n)", &table, &fourth)?;
-    match judged(heap, &table, &first, 3, 18)? {
-        Some(_) => println!(rt; "limit 18: answered")?,
-        None => println!(rt; "limit 18: want of looks")?,
-    }
-    match judged(heap, &table, &first, 3, 19)? {
-        Some(_) => println!(rt; "limit 19: answered")?,
-        None => println!(rt; "limit 19: want of looks")?,
-    }
-    Ok(())
+    tell_limit(rt, &table, &first, 18)?;
+    tell_limit(rt, &table, &first, 19)
 }
