@@ -1,3 +1,5 @@
 pub mod Bits
 pub mod LowestBit
+pub mod Sizes
+pub mod Taking
 pub mod Words
