@@ -1,4 +1,5 @@
 pub mod Bits
+pub mod Equality
 pub mod LowestBit
 pub mod Sizes
 pub mod Taking

@@ -14,6 +14,16 @@ impl StateSet {
         StateSet { words: [0; WORDS] }
     }
 
+    // The one state s.
+    pub fn only(s: usize) -> StateSet
+        requires { s < state_limit }
+        ensures { (t : ℕ) → member result t ≡ (t == s) }
+    {
+        let mut one = StateSet::none();
+        one.insert(s);
+        one
+    }
+
     // The states below `count` for which the test holds.
     pub fn those_below<F: Fn(usize) -> bool>(count: usize, holds: F) -> StateSet
         requires fits { count ≤ state_limit }
