@@ -2,5 +2,6 @@
 #![tactic(auto)]
 
 pub mod lowest;
+pub mod members;
 pub mod ops;
 pub mod set;

@@ -2,7 +2,7 @@
 ghost use Rattle.std.specs.Prelude.{◌≡◌, ℕ, ◌<◌, ◌≤◌, true, false, MatchOption};
 ghost use Rattle.sets.specs.Sets.{bit, LowestFrom};
 
-pub(crate) fn lowest_bit(word: u64, from: u32) -> Option<u32>
+pub(crate) fn lowest_bit(word: u64, from: usize) -> Option<usize>
     ensures { MatchOption result ((i : ℕ) → from ≤ i → i < 64 → bit word i ≡ false) (λ t. (t < 64) × LowestFrom (bit word) from t) }
 {
     if from >= 64 {
@@ -12,5 +12,5 @@ pub(crate) fn lowest_bit(word: u64, from: u32) -> Option<u32>
     if shifted == 0 {
         return None;
     }
-    Some(from + shifted.trailing_zeros())
+    Some(from + shifted.trailing_zeros() as usize)
 }

@@ -1,10 +1,11 @@
 // What is done with sets. Each contract speaks of every number: one past the last word is no member.
-ghost use Rattle.std.specs.Prelude.{◌≡◌, ℕ, ◌+◌, ◌-◌, ◌<◌, ◌≤◌, true, false, not, ◌&&◌, ◌||◌, MatchOption, ◌==◌, nat_lt};
+ghost use Rattle.std.specs.Prelude.{◌≡◌, ℕ, ◌+◌, ◌-◌, ◌<◌, ◌≤◌, true, false, not, ◌&&◌, ◌||◌, MatchOption, ◌==◌, nat_lt, slice_index};
 ghost use Rattle.ctl.specs.States.{size_below};
-ghost use Rattle.sets.specs.Sets.{state_limit, member, LowestFrom};
+ghost use Rattle.sets.specs.Sets.{word_count, state_limit, bit, member, LowestFrom};
 
 use crate::lowest::lowest_bit;
 use crate::set::{STATES, StateSet, WORDS};
+use std::array;
 
 impl StateSet {
     pub fn none() -> StateSet
@@ -13,16 +14,38 @@ impl StateSet {
         StateSet { words: [0; WORDS] }
     }
 
+    // The one state s.
+    pub fn only(s: usize) -> StateSet
+        requires { s < state_limit }
+        ensures { (t : ℕ) → member result t ≡ (t == s) }
+    {
+        let mut one = StateSet::none();
+        one.insert(s);
+        one
+    }
+
+    // The states below `count` for which the test holds.
+    pub fn those_below<F: Fn(usize) -> bool>(count: usize, holds: F) -> StateSet
+        requires fits { count ≤ state_limit }
+        requires callable { (s : ℕ) → s < count → F.pre holds s }
+        ensures told { (s : ℕ) → s < count → F.post holds s (member result s) }
+        ensures past { (s : ℕ) → count ≤ s → member result s ≡ false }
+    {
+        let mut out = StateSet::none();
+        for s in 0..count {
+            if holds(s) {
+                out.insert(s);
+            }
+        }
+        out
+    }
+
     // The states below `count`.
     pub fn below(count: usize) -> StateSet
         requires { count ≤ state_limit }
         ensures { (s : ℕ) → member result s ≡ nat_lt s count }
     {
-        let mut out = StateSet::none();
-        for s in 0..count {
-            out.insert(s);
-        }
-        out
+        StateSet::those_below(count, |_| true)
     }
 
     pub fn contains(&self, s: usize) -> bool
@@ -38,7 +61,7 @@ impl StateSet {
         requires { s < state_limit }
         ensures { (t : ℕ) → member self.new t ≡ (t == s || member self.old t) }
     {
-        self.words[s / 64] = self.words[s / 64] | (1u64 << (s % 64));
+        self.words[s / 64] |= 1u64 << (s % 64);
     }
 
     pub fn without(self, s: usize) -> StateSet
@@ -46,75 +69,58 @@ impl StateSet {
         ensures { (t : ℕ) → member result t ≡ (member self t && not (t == s)) }
     {
         let mut out = self;
-        let w = out.words[s / 64];
-        out.words[s / 64] = w ^ (w & (1u64 << (s % 64)));
+        out.words[s / 64] &= !(1u64 << (s % 64));
         out
+    }
+
+    // Each word from the two words at its place.
+    fn by_words<F: Fn(u64, u64) -> u64>(self, other: StateSet, op: F) -> StateSet
+        requires { F.IsAlwaysCallable op }
+        ensures { (i : ℕ) → i < word_count → F.post op (slice_index self.words i) (slice_index other.words i) (slice_index result.words i) }
+    {
+        StateSet {
+            words: array::from_fn(|i| op(self.words[i], other.words[i])),
+        }
     }
 
     pub fn union(self, other: StateSet) -> StateSet
         ensures { (s : ℕ) → member result s ≡ (member self s || member other s) }
     {
-        let mut out = self;
-        for i in 0..WORDS {
-            out.words[i] = self.words[i] | other.words[i];
-        }
-        out
+        self.by_words(other, |a, b| a | b)
     }
 
     pub fn intersect(self, other: StateSet) -> StateSet
         ensures { (s : ℕ) → member result s ≡ (member self s && member other s) }
     {
-        let mut out = self;
-        for i in 0..WORDS {
-            out.words[i] = self.words[i] & other.words[i];
-        }
-        out
+        self.by_words(other, |a, b| a & b)
     }
 
     pub fn minus(self, other: StateSet) -> StateSet
         ensures { (s : ℕ) → member result s ≡ (member self s && not (member other s)) }
     {
-        let mut out = self;
-        for i in 0..WORDS {
-            out.words[i] = self.words[i] ^ (self.words[i] & other.words[i]);
-        }
-        out
+        self.by_words(
+            other,
+            |a, b| -> u64
+                ensures { (i : ℕ) → i < 64 → bit result i ≡ (bit a i && not (bit b i)) }
+            { a & !b },
+        )
     }
 
     // Is some state in both?
     pub fn meets(&self, other: &StateSet) -> bool
         ensures { (result ≡ false → (s : ℕ) → (member self.now s && member other.now s) ≡ false) × (result ≡ true → (s : ℕ) × ((member self.now s && member other.now s) ≡ true)) }
     {
-        for i in 0..WORDS {
-            if self.words[i] & other.words[i] != 0 {
-                return true;
-            }
-        }
-        false
-    }
-
-    // Are the members the same? Two sets may be told apart only where a word differs.
-    pub fn same(&self, other: &StateSet) -> bool
-        ensures { result ≡ true → (s : ℕ) → member self.now s ≡ member other.now s }
-    {
-        for i in 0..WORDS {
-            if self.words[i] != other.words[i] {
-                return false;
-            }
-        }
-        true
+        self.intersect(*other).next(0).is_some()
     }
 
     // The lowest member at or above `from`.
     pub fn next(&self, from: usize) -> Option<usize>
         ensures { MatchOption result ((i : ℕ) → from ≤ i → member self.now i ≡ false) (λ t. (t < state_limit) × LowestFrom (member self.now) from t) }
     {
-        let mut at = from;
-        while at < STATES {
-            if let Some(b) = lowest_bit(self.words[at / 64], (at % 64) as u32) {
-                return Some(at / 64 * 64 + b as usize);
+        for (i, word) in self.words.iter().enumerate() {
+            if let Some(b) = lowest_bit(*word, from.saturating_sub(i * 64)) {
+                return Some(i * 64 + b);
             }
-            at = (at / 64 + 1) * 64;
         }
         None
     }
@@ -123,12 +129,6 @@ impl StateSet {
     pub fn size(&self, count: usize) -> usize
         ensures { result ≡ size_below (member self.now) count }
     {
-        let mut n = 0;
-        for s in 0..count {
-            if self.contains(s) {
-                n += 1;
-            }
-        }
-        n
+        (0..count).filter(|s| self.contains(*s)).count()
     }
 }

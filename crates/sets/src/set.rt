@@ -7,7 +7,7 @@ pub const WORDS: usize = 1;
 pub const STATES: usize = WORDS * 64;
 
 // State s is bit s % 64 of word s / 64.
-#[derive(Clone, Copy)]
+#[derive(Clone, Copy, PartialEq, Eq, Debug)]
 pub struct StateSet {
     pub(crate) words: [u64; WORDS],
 }
