@@ -6,9 +6,12 @@ use search::budget::AboveBudget;
 
 #[derive(Clone, Copy, PartialEq, Eq, Debug)]
 pub enum NoWitness {
-    Room, // the buffer is too short
-    Looks, // the part's rules cost more than the budget
-    Untrue, // no path shows the part
+    // The buffer is too short.
+    Room,
+    // The part's rules cost more than the budget.
+    Looks,
+    // The part is true on no path from there.
+    Untrue,
 }
 
 // By hand, since a clause tells which error `?` makes of a cost above the budget.
