@@ -4,7 +4,7 @@ ghost use Rattle.ctl.specs.States.{size_below};
 ghost use Rattle.sets.specs.Sets.{word_count, state_limit, bit, member, LowestFrom};
 
 use crate::lowest::lowest_bit;
-use crate::set::{STATES, StateSet, WORDS};
+use crate::set::{StateSet, WORDS};
 use std::array;
 
 impl StateSet {
@@ -51,10 +51,9 @@ impl StateSet {
     pub fn contains(&self, s: usize) -> bool
         ensures { result ≡ member self.now s }
     {
-        if s >= STATES {
-            return false;
-        }
-        (self.words[s / 64] >> (s % 64)) & 1 == 1
+        self.words
+            .get(s / 64)
+            .is_some_and(|word| (word >> (s % 64)) & 1 == 1)
     }
 
     pub fn insert(&mut self, s: usize)
