@@ -1,9 +1,11 @@
 -- The worked cases, computed.
-use Rattle.std.proofs.Common.{◌≡◌, ℕ, zero, suc, ◌<◌, true, false, List, [], ◌∷◌, refl, subst, inr, true≢false, arith}
+use Rattle.std.proofs.Common.{◌≡◌, ℕ, suc, ◌<◌, Bool, true, false, not, ◌&&◌, eqb, ◌⊎◌, ⊎_elim, List, [], ◌∷◌, refl, subst, inr, arith}
 use mathlib.Core.Bool.{false≢true}
+use Rattle.std.proofs.lemmas.Bool.{both_ways, and_from, not_from_false}
+use Rattle.std.proofs.lemmas.Bool.Decides.{Decides-eqb}
 use Rattle.model.specs.Meaning.{Meaning, Starts, Moves, Carries, Total}
 use Rattle.ctl.specs.Cost.{cost_at}
-use Rattle.ctl.specs.Decision.{any_below, all_below, verdict_at}
+use Rattle.ctl.specs.Decision.{or_else, any_below, all_below, verdict_at}
 use Rattle.ctl.specs.Formula.{Formula, PathPart, literal, one, negation_part}
 use Rattle.ctl.specs.KPath.{state_at, Witness}
 use Rattle.ctl.specs.States.{states_that_count}
@@ -16,7 +18,7 @@ use Rattle.ctl.proofs.Deciding.{decides, decides_along}
 use Rattle.ctl.proofs.Guards.{moves_to_a_state, starts_at_a_state}
 use Rattle.ctl.proofs.Judging.{verdict_is}
 use Rattle.ctl.proofs.Paths.{no_moves}
-use Rattle.ctl.proofs.Tests.{decides_any, decides_all, decides_yes}
+use Rattle.ctl.proofs.Tests.{decides_any, decides_all, decides_else, decides_yes, decides_no}
 
 -- a model is total if a test says that each state moves on
 total_by_test : (m : Meaning) → all_below (λ s. any_below (λ t. Moves m s t) m.count) m.count ≡ true → Total m
@@ -44,33 +46,24 @@ round_trip_shows = record {
   along = (decides_along four never_f 3 round_trip).0 refl;
 }
 
+-- u is the only number below n that passes the test p, if a test says so
+only_one : (p : ℕ → Bool) (n u : ℕ) → all_below (λ t. or_else (not (p t)) (λ _. eqb t u)) n ≡ true → (t : ℕ) → t < n → p t ≡ true → t ≡ u
+only_one p n u e t h y =
+    ⊎_elim (λ z. absurd (both_ways (p t) z y)) (λ z. z)
+    ((decides_all _ (λ t. (p t ≡ false) ⊎ (t ≡ u)) n (λ t _. decides_else (not (p t)) (eqb t u) (decides_no (p t)) (Decides-eqb t u))).0 e t h)
+
 start_of_four : (s : ℕ) → Starts four s ≡ true → s ≡ 0
-start_of_four zero e = refl
-start_of_four (suc zero) e = absurd (false≢true e)
-start_of_four (suc (suc zero)) e = absurd (false≢true e)
-start_of_four (suc (suc (suc zero))) e = absurd (false≢true e)
-start_of_four (suc (suc (suc (suc s)))) e = absurd (let h = starts_at_a_state four (suc (suc (suc (suc s)))) e in omega arith)
+start_of_four s e = only_one (Starts four) 4 0 refl s (starts_at_a_state four s e) e
 
 after_0 : (t : ℕ) → Moves four 0 t ≡ true → t ≡ 1
-after_0 zero e = absurd (false≢true e)
-after_0 (suc zero) e = refl
-after_0 (suc (suc zero)) e = absurd (false≢true e)
-after_0 (suc (suc (suc zero))) e = absurd (false≢true e)
-after_0 (suc (suc (suc (suc t)))) e = absurd (let h = moves_to_a_state four 0 (suc (suc (suc (suc t)))) e in omega arith)
+after_0 t e = only_one (Moves four 0) 4 1 refl t (moves_to_a_state four 0 t e) e
 
 after_1 : (t : ℕ) → Moves four 1 t ≡ true → t ≡ 2
-after_1 zero e = absurd (false≢true e)
-after_1 (suc zero) e = absurd (false≢true e)
-after_1 (suc (suc zero)) e = refl
-after_1 (suc (suc (suc zero))) e = absurd (false≢true e)
-after_1 (suc (suc (suc (suc t)))) e = absurd (let h = moves_to_a_state four 1 (suc (suc (suc (suc t)))) e in omega arith)
+after_1 t e = only_one (Moves four 1) 4 2 refl t (moves_to_a_state four 1 t e) e
 
 after_2 : (t : ℕ) → Moves four 2 t ≡ true → Carries four t f ≡ false → t ≡ 0
-after_2 zero e g = refl
-after_2 (suc zero) e g = absurd (false≢true e)
-after_2 (suc (suc zero)) e g = absurd (false≢true e)
-after_2 (suc (suc (suc zero))) e g = absurd (true≢false g)
-after_2 (suc (suc (suc (suc t)))) e g = absurd (let h = moves_to_a_state four 2 (suc (suc (suc (suc t)))) e in omega arith)
+after_2 t e g =
+    only_one (λ t. Moves four 2 t && not (Carries four t f)) 4 0 refl t (moves_to_a_state four 2 t e) (and_from _ _ e (not_from_false _ g))
 
 only_round_trip : (l : List ℕ) → Witness four never_f 3 0 l → l ≡ round_trip
 only_round_trip [] w = absurd (omega (arith, w.path.states))

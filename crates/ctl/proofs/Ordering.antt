@@ -1,6 +1,6 @@
 -- The dictionary order is a strict total order.
 use Rattle.std.proofs.Common.{◌≡◌, ℕ, ◌<◌, ◌⊎◌, List, [], ◌∷◌, ◌++◌, sym, refl, ◌∙◌, ap₂, inl, inr, arith}
-use native.Mathlib.Decide.{dec_lt, ℕ_discrete}
+use Rattle.std.proofs.lemmas.Bool.{cases_order}
 use Rattle.ctl.specs.Claims.{OrdersLists}
 use Rattle.ctl.specs.Dictionary.{Before}
 
@@ -24,14 +24,14 @@ total : (a b : List ℕ) → (a ≡ b) ⊎ (Before a b ⊎ Before b a)
 total [] [] = inl refl
 total [] (y ∷ b) = inr (inl tt)
 total (x ∷ a) [] = inr (inr tt)
-total (x ∷ a) (y ∷ b) = go (dec_lt x y) (ℕ_discrete x y) (total a b)
+total (x ∷ a) (y ∷ b) = go (cases_order x y) (total a b)
   where
-    go : Dec (x < y) → Dec (x ≡ y) → (a ≡ b) ⊎ (Before a b ⊎ Before b a) → (x ∷ a ≡ y ∷ b) ⊎ (Before (x ∷ a) (y ∷ b) ⊎ Before (y ∷ b) (x ∷ a))
-    go (yes l) d r = inr (inl (inl l))
-    go (no l) (no n) r = inr (inr (inl (omega arith)))
-    go (no l) (yes e) (inl r) = inl (ap₂ ◌∷◌ e r)
-    go (no l) (yes e) (inr (inl r)) = inr (inl (inr (e, r)))
-    go (no l) (yes e) (inr (inr r)) = inr (inr (inr (sym e, r)))
+    go : (x ≡ y) ⊎ ((x < y) ⊎ (y < x)) → (a ≡ b) ⊎ (Before a b ⊎ Before b a) → (x ∷ a ≡ y ∷ b) ⊎ (Before (x ∷ a) (y ∷ b) ⊎ Before (y ∷ b) (x ∷ a))
+    go (inl e) (inl r) = inl (ap₂ ◌∷◌ e r)
+    go (inl e) (inr (inl r)) = inr (inl (inr (e, r)))
+    go (inl e) (inr (inr r)) = inr (inr (inr (sym e, r)))
+    go (inr (inl l)) r = inr (inl (inl l))
+    go (inr (inr l)) r = inr (inr (inl l))
 
 extensions : (a : List ℕ) (x : ℕ) (xs : List ℕ) → Before a (a ++ (x ∷ xs))
 extensions [] x xs = tt

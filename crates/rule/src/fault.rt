@@ -35,7 +35,7 @@ impl RuleFault {
         }
     }
 
-    // The place in the text that the refusal points at; 0 where it points at none.
+    // The place in the text that the refusal points at; 0 where it points at none, as a listing tells it.
     pub fn place(&self) -> usize
         ensures { result ≡ place self.now }
     {

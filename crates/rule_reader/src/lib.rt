@@ -28,5 +28,5 @@ pub fn read_rule(heap: Global, text: &[u8]) -> Result<Rule, RuleFault>
     if text.is_empty() || text.len() > LONGEST {
         return Err(RuleFault::Length);
     }
-    Reader::new(text).whole(heap)
+    Reader::new(heap, text).whole()
 }

@@ -14,57 +14,56 @@ use ctl::{Binary, Connective};
 use rule::fault::RuleFault;
 use rule::sign::Sign;
 use rule::tree::{PathPart, Rule};
-use std::alloc::Global;
 
 impl<'a> Reader<'a> {
     // The rule that all of the text ahead is.
-    pub(crate) fn whole(&mut self, heap: Global) -> Result<Rule, RuleFault>
+    pub(crate) fn whole(&mut self) -> Result<Rule, RuleFault>
         ensures reads { MatchResult result (λ f. Means (ahead self.old) (formula f)) (HaltsAhead (λ _. need []) self.old) }
     {
-        let rule = self.rule(heap)?;
+        let rule = self.rule()?;
         self.end()?;
         Ok(rule)
     }
 
     // Terms joined by |, each of them units joined by &.
     #[cycle(reading)]
-    fn rule(&mut self, heap: Global) -> Result<Rule, RuleFault>
+    fn rule(&mut self) -> Result<Rule, RuleFault>
         ensures onward { Onward self.old self.new }
         ensures reads { MatchResult result (λ f. IsRule (ahead self.old) (formula f) (ahead self.new) × Ended (ahead self.new)) (HaltsAhead need self.old) }
     {
-        self.chain(heap, Connective::Or)
+        self.chain(Connective::Or)
     }
 
     // Operands joined by `op`.
     #[cycle(reading)]
-    fn chain(&mut self, heap: Global, op: Connective) -> Result<Rule, RuleFault>
+    fn chain(&mut self, op: Connective) -> Result<Rule, RuleFault>
         ensures onward { Onward self.old self.new }
         ensures reads { MatchResult result (λ f. IsChain op (ahead self.old) (formula f) (ahead self.new) × OperandEnded op (ahead self.new) × Clear (ConnectiveSign op) (ahead self.new)) (HaltsAhead need self.old) }
     {
-        let mut left = self.operand(heap, op)?;
+        let mut left = self.operand(op)?;
         while self.peek() == Some(Sign::Connective(op)) {
             self.pass();
-            let right = self.operand(heap, op)?;
-            left = Rule::joined(heap, op, left, right)?;
+            let right = self.operand(op)?;
+            left = Rule::joined(self.heap, op, left, right)?;
         }
         Ok(left)
     }
 
     // What `op` joins: & units, | terms.
     #[cycle(reading)]
-    fn operand(&mut self, heap: Global, op: Connective) -> Result<Rule, RuleFault>
+    fn operand(&mut self, op: Connective) -> Result<Rule, RuleFault>
         ensures onward { Onward self.old self.new }
         ensures reads { MatchResult result (λ f. IsOperand op (ahead self.old) (formula f) (ahead self.new) × OperandEnded op (ahead self.new)) (HaltsAhead need self.old) }
     {
         match op {
-            Connective::And => self.unit(heap),
-            Connective::Or => self.chain(heap, Connective::And),
+            Connective::And => self.unit(),
+            Connective::Or => self.chain(Connective::And),
         }
     }
 
     // A letter, 0 or 1, a negated unit, a rule in brackets, or A or E and a path part.
     #[cycle(reading)]
-    fn unit(&mut self, heap: Global) -> Result<Rule, RuleFault>
+    fn unit(&mut self) -> Result<Rule, RuleFault>
         ensures onward { Onward self.old self.new }
         ensures reads { MatchResult result (λ f. IsUnit (ahead self.old) (formula f) (ahead self.new)) (HaltsAhead need self.old) }
     {
@@ -79,20 +78,20 @@ impl<'a> Reader<'a> {
             }
             Some(Sign::Not) => {
                 self.pass();
-                let mut rule = self.unit(heap)?;
+                let mut rule = self.unit()?;
                 rule.negate();
                 Ok(rule)
             }
             Some(Sign::Open) => {
                 self.pass();
-                let group = self.rule(heap)?;
+                let group = self.rule()?;
                 self.close()?;
                 Ok(group)
             }
             Some(Sign::Quantifier(quantifier)) => {
                 self.pass();
-                let asked = self.path_part(heap)?;
-                Ok(Rule::quantified(heap, quantifier, asked)?)
+                let asked = self.path_part()?;
+                Ok(Rule::quantified(self.heap, quantifier, asked)?)
             }
             _ => Err(self.fault()),
         }
@@ -100,21 +99,21 @@ impl<'a> Reader<'a> {
 
     // X, F or G and a unit, or in brackets a rule, U or R, and a rule.
     #[cycle(reading)]
-    fn path_part(&mut self, heap: Global) -> Result<PathPart, RuleFault>
+    fn path_part(&mut self) -> Result<PathPart, RuleFault>
         ensures onward { Onward self.old self.new }
         ensures reads { MatchResult result (λ x. IsPathPart (ahead self.old) (part_formula x) (ahead self.new)) (HaltsAhead part self.old) }
     {
         match self.peek() {
             Some(Sign::Unary(op)) => {
                 self.pass();
-                let rule = self.unit(heap)?;
+                let rule = self.unit()?;
                 Ok(PathPart::One(op, rule))
             }
             Some(Sign::Open) => {
                 self.pass();
-                let left = self.rule(heap)?;
+                let left = self.rule()?;
                 let op = self.binary()?;
-                let right = self.rule(heap)?;
+                let right = self.rule()?;
                 self.close()?;
                 Ok(PathPart::Two(op, left, right))
             }

@@ -8,14 +8,16 @@ ghost use Rattle.rule.specs.declared.sign.Sign.TheVariants.{Space};
 use crate::reader::Reader;
 use rule::fault::RuleFault;
 use rule::sign::Sign;
+use std::alloc::Global;
 
 impl<'a> Reader<'a> {
     // A reader at the first sign of `text`.
-    pub(crate) fn new(text: &'a [u8]) -> Self
+    pub(crate) fn new(heap: Global, text: &'a [u8]) -> Self
         ensures same { bytes result ≡ text.now }
         ensures spaces { Spaces text.now (ahead result) }
     {
         Reader {
+            heap,
             text,
             at: leading_spaces(text),
         }

@@ -59,15 +59,15 @@ path_part-returns-in_err-close-in-Some-Open-clause-reads t c = rw (refused _ c.f
 
 -- ---- chains
 
-pub chain-loop-heap-init : goal.chain-loop-heap-init
-chain-loop-heap-init t c = record { onward = c.operand.ensures.onward; reads = chain_begins _ _ _ _ c.in_ok-left.ensures.reads.0; ended = c.in_ok-left.ensures.reads.1 }
+pub chain-loop-op-init : goal.chain-loop-op-init
+chain-loop-op-init t c = record { onward = c.operand.ensures.onward; reads = chain_begins _ _ _ _ c.in_ok-left.ensures.reads.0; ended = c.in_ok-left.ensures.reads.1 }
 
-pub chain-loop-heap-preserved : goal.chain-loop-heap-preserved
-chain-loop-heap-preserved t c = record {
+pub chain-loop-op-preserved : goal.chain-loop-op-preserved
+chain-loop-op-preserved t c = record {
   onward = search rules;
-  reads = rw c.in_ok-left-2.ensures (chain_goes_on c.args.op _ _ _ _ c.loop-heap.invariant.reads (c.pass.ensures.reads _ (search rules)) c.in_ok-right.ensures.reads.0);
+  reads = rw c.in_ok-left-2.ensures (chain_goes_on c.args.op _ _ _ _ c.loop-op.invariant.reads (c.pass.ensures.reads _ (search rules)) c.in_ok-right.ensures.reads.0);
   ended = c.in_ok-right.ensures.reads.1;
 }
 
 pub chain-returns-in_err-right-clause-reads : goal.chain-returns-in_err-right-clause-reads
-chain-returns-in_err-right-clause-reads t c = rw (refused _ c.from_residual-in_err-right.ensures.1) (behind_connective _ _ c.args.op _ (c.pass.ensures.onward.same ∙ c.loop-heap.invariant.onward.same) c.loop-heap.invariant.reads (c.pass.ensures.reads _ (search rules)) c.in_err-right.ensures.reads)
+chain-returns-in_err-right-clause-reads t c = rw (refused _ c.from_residual-in_err-right.ensures.1) (behind_connective _ _ c.args.op _ (c.pass.ensures.onward.same ∙ c.loop-op.invariant.onward.same) c.loop-op.invariant.reads (c.pass.ensures.reads _ (search rules)) c.in_err-right.ensures.reads)

@@ -30,12 +30,12 @@ decreases-chain l = measure l.self.now (operand_rank l.op + 1)
 abbrev pub decreases-rule : goal.decreases-rule
 decreases-rule l = measure l.self.now 5
 
-abbrev pub invariant-chain-loop-heap : goal.invariant-chain-loop-heap
-invariant-chain-loop-heap l = record {
+abbrev pub invariant-chain-loop-op : goal.invariant-chain-loop-op
+invariant-chain-loop-op l = record {
   onward : Onward l.fn.self l.self;
   reads : IsChain l.op (ahead l.fn.self) (formula l.left) (ahead l.self);
   ended : OperandEnded l.op (ahead l.self);
 }
 
-abbrev pub decreases-chain-loop-heap : goal.decreases-chain-loop-heap
-decreases-chain-loop-heap l = length (bytes l.self) - l.self.at
+abbrev pub decreases-chain-loop-op : goal.decreases-chain-loop-op
+decreases-chain-loop-op l = length (bytes l.self) - l.self.at
