@@ -18,8 +18,8 @@ text_is : (l : List ℕ) (ls : List (List ℕ)) (left : List ℕ) → flat_map w
 text_is l ls left = append_assoc (with_newline l) (flat_map with_newline ls) left ∙ append_assoc l (10 ∷ []) (flat_map with_newline ls ++ left)
 
 not_empty : (a b : List ℕ) → [] ≡ a ++ 10 ∷ b → ⊥
-not_empty [] b e = let z : ◌≡◌ {A = ℕ} 0 1 = cc in omega arith
-not_empty (x ∷ a) b e = let z : ◌≡◌ {A = ℕ} 0 1 = cc in omega arith
+not_empty [] b e = cc
+not_empty (x ∷ a) b e = cc
 
 -- lines are read in one way
 one_list : (ls ls' : List (List ℕ)) → AllByRecursion RuleLine ls → AllByRecursion RuleLine ls' → flat_map with_newline ls ++ [] ≡ flat_map with_newline ls' ++ [] → ls ≡ ls'
