@@ -2,7 +2,7 @@ use Rattle.std.proofs.Common.{◌≡◌, length, Option, Some, None, Result, Err
 use Rattle.std.specs.Option.{ok_or}
 use Rattle.std.proofs.lemmas.Bool.{eq-eqb, eqb-true, false≢true}
 use Rattle.std.proofs.lemmas.Result.{err_from_is_err_and}
-use Rattle.channel.proofs.LastLine.{fits_sized, not_sized, cut_there, past_the_sign, no_front}
+use Rattle.channel.proofs.LastLine.{fits_sized, not_sized, past_the_sign, no_front}
 use Rattle.channel.specs.Faults.{bad_size, bad_last_line, bad_offset}
 use Rattle.channel.specs.Steps.{LastOr}
 use Rattle.channel.specs.declared.fault.FormFault.TheVariants.{LastLine}
@@ -32,12 +32,3 @@ returns-then-offset-at c =
     let some = λ (z : length file ≡ 0). false≢true (sym c.if-is_empty.false ∙ c.is_empty.ensures ∙ eq-eqb (length file) 0 z) in
     let told = subst (LastOr file) c.in_ok-at.ensures.ok_part c.last_line.ensures in
     bad_offset (fits_sized file some (omega arith)) (elim c.then-offset-at.branch [ then-offset-at-via-then-offset-at w ↦ past_the_sign file c.in_ok-at.at c.in_ok-at.offset told.0 told.1 w.if-offset-at.true | then-offset-at-via-else-offset-at+then-not-is_line_front w ↦ no_front file c.in_ok-at.at c.in_ok-at.offset told.1 (sym w.if-not-is_line_front.ensures) ])
-
-pub returns : goal.returns
-returns c =
-    let file = c.args.file.now in
-    let some = λ (z : length file ≡ 0). false≢true (sym c.if-is_empty.false ∙ c.is_empty.ensures ∙ eq-eqb (length file) 0 z) in
-    let told = subst (LastOr file) c.in_ok-at.ensures.ok_part c.last_line.ensures in (
-      fits_sized file some (omega arith),
-      cut_there file c.in_ok-at.at c.in_ok-at.offset told.0 told.1 c.if-offset-at.false (sym c.if-not-is_line_front.ensures),
-    )

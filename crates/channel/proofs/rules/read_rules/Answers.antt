@@ -1,6 +1,6 @@
-use Rattle.std.proofs.Common.{Some, None, ap, ◌∙◌, subst, inl, inr, ⊎_elim}
+use Rattle.std.proofs.Common.{Some, ap, ◌∙◌, subst, inl, inr, ⊎_elim}
 use Rattle.std.proofs.lemmas.Result.{err_from_is_err_and}
-use Rattle.channel.proofs.Lined.{all_read, one_more, refused_there}
+use Rattle.channel.proofs.Lined.{one_more, refused_there}
 use Rattle.text.specs.Lines.{NextLine}
 use Rattle.channel.proofs.rules.read_rules.Goals as goal
 
@@ -23,9 +23,3 @@ returns-in_err-read_line c =
     let is = subst (λ t. NextLine t c.loop-line.line-iterator.at c.next.new.self.at (Some c.in-Some.line)) so.same c.in-Some.ensures.steps.1 in
     let told = c.in_err-read_line.ensures in
     rw (p.1, p.2) (⊎_elim inl (λ b. inr (refused_there c.args.rules.now _ _ _ c.in-Some.line so.read is c.args.offset _ _ told.0 b)) told.1)
-
-pub returns : goal.returns
-returns c =
-    let so = c.loop-line.invariant in
-    let none = subst (λ t. NextLine t c.loop-line.line-iterator.at c.next.new.self.at None) so.same c.in-None.ensures.steps.1 in
-    (so.read.lines, all_read c.args.rules.now _ _ c.requires.closed none.0 so.read, so.read.laid_are)

@@ -1,4 +1,4 @@
-use Rattle.std.proofs.Common.{◌≡◌, true, [], ◌∷◌, ◌++◌, length, vec_items, Some, None, sym, refl, ap, ◌∙◌, subst, inl, inr, ⊎_elim, arith}
+use Rattle.std.proofs.Common.{◌≡◌, true, [], ◌∷◌, ◌++◌, vec_items, Some, None, sym, refl, ap, ◌∙◌, subst, inl, inr, ⊎_elim, arith}
 use Rattle.std.specs.Option.{option_or}
 use Rattle.std.proofs.lemmas.List.{length-map}
 use Rattle.std.proofs.lemmas.Slice.{pushed}
@@ -30,27 +30,6 @@ loop-line-preserved c =
       same = ap (λ r. r.now) c.in-Some.ensures.steps.0 ∙ so.same;
       read = subst (λ b. ReadSoFar c.args.text.now c.count_lines-count.result c.next.new.self.at (vec_items c.push.new.self) b) (sym c.or-beyond.ensures) (subst (λ rows. ReadSoFar c.args.text.now c.count_lines-count.result c.next.new.self.at rows (option_or c.loop-line.beyond c.in_ok-row.late)) (sym p) more);
     }
-
-pub returns-in-Some-beyond : goal.returns-in-Some-beyond
-returns-in-Some-beyond c =
-    let text = c.args.text.now in
-    let so = c.loop-line.invariant in
-    let lawful : has_lines text ≡ true = sym c.if-not-has_lines.ensures in
-    let none = subst (λ t. NextLine t c.loop-line.line-iterator.at c.next.new.self.at None) so.same c.in-None.ensures.steps.1 in
-    let read = all_read text c.count_lines-count.result _ _ _ lawful so.read none.0 in
-    let rows = vec_items c.loop-line.rows in
-    let n : c.count_lines-count.result ≡ length (lines_of rows) = omega (arith, c.count_lines-count.ensures, read.1, length-map rows line_of) in
-    inr (inr (
-      lawful,
-      inr (record {
-        lines = lines_of rows;
-        place = c.in-Some-beyond.place;
-        whole = read.0;
-        formed = so.read.formed;
-        beyond = ap (λ k. text_beyond k 0 (lines_of rows)) (sym n) ∙ sym so.read.beyond_is ∙ c.in-Some-beyond.is;
-        fault = refl;
-      }),
-    ))
 
 pub returns-in-None-beyond : goal.returns-in-None-beyond
 returns-in-None-beyond c =
