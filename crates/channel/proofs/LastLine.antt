@@ -2,9 +2,8 @@
 use Rattle.std.proofs.Common.{◌≡◌, ℕ, zero, suc, ◌+◌, ◌-◌, ◌<◌, ◌≤◌, Bool, true, false, ◌&&◌, eqb, leb, ◌⊎◌, List, [], ◌∷◌, ◌++◌, length, get_or, take, drop, decimal, sym, refl, ap, ◌∙◌, subst, inl, inr, ⊎_elim, arith}
 use Rattle.std.proofs.str.Laws.{order}
 use Rattle.std.specs.Cmp.Lexicographic.{pointwise, same_text}
-use Rattle.std.proofs.lemmas.Bool.{false≢true, or_cases, eqb-true, and_from, and_parts, le-leb, leb-true, lt-leb}
-use Rattle.std.proofs.lemmas.List.{take-append-drop, append_assoc, length-append, length-take-le, take-append-le, append_cancel_right, get_or_at, get_or_append_left, get_or-append_right, take_at, drop_at, length-drop, get_or-drop, take-take}
-use Rattle.std.proofs.lemmas.Slice.{between_is}
+use Rattle.std.proofs.lemmas.Bool.{false≢true, or_cases, eqb-true, and_from, and_parts, le-leb, lt-leb}
+use Rattle.std.proofs.lemmas.List.{take-append-drop, append_assoc, length-append, length-take-le, take-append-le, append_cancel_right, get_or_append_left, get_or-append_right, take_at, drop_at, length-drop, get_or-drop}
 use Rattle.std.proofs.lemmas.Fmt.{digits_decimal, decimal_injective}
 use Rattle.text.proofs.Digits.{Figures, own}
 use Rattle.channel.specs.Faults.{BadOffset}
@@ -30,14 +29,6 @@ after_break file at e h = ⊎_elim (λ z. absurd (omega (arith, eqb-true at 0 z)
 module _ (file body : List ℕ) (n : ℕ) (last : Last file body n) where
   pub long : length file ≡ length body + 1 + length (decimal n) + 1
   long = omega (arith, ap length last.whole, length-append body (64 ∷ (decimal n ++ 10 ∷ [])), length-append (decimal n) (10 ∷ []))
-
-  pub at_sign : get_or file (length body) 0 ≡ 64
-  at_sign = ap (λ xs. get_or xs (length body) 0) last.whole ∙ get_or_at body 64 (decimal n ++ 10 ∷ []) 0 (length body) refl
-
-  pub last_byte : get_or file (length file - 1) 0 ≡ 10
-  last_byte =
-      let k : length file - 1 ≡ length body + (1 + length (decimal n)) = omega (arith, long) in
-      ap (λ j. get_or file j 0) k ∙ ap (λ xs. get_or xs (length body + (1 + length (decimal n))) 0) (last.whole ∙ sym (append_assoc body (64 ∷ decimal n) (10 ∷ []))) ∙ get_or_at (body ++ 64 ∷ decimal n) 10 [] 0 (length body + (1 + length (decimal n))) (omega (arith, length-append body (64 ∷ decimal n)))
 
   -- within the last line there is no byte 10
   inside : (k : ℕ) → length body ≤ k → k < length file - 1 → get_or file k 0 ≡ 10 → ⊥
@@ -111,16 +102,6 @@ past_the_sign file at n within last h =
 pub no_front : (file : List ℕ) (at n : ℕ) → Last file (take at file) n → line_front file n ≡ false → BadOffset file
 no_front file at n last f = record { body = take at file; n = n; last = last; bad = no_second (leb n (length (take at file))) (line_front file n) f }
 
-pub cut_there : (file : List ℕ) (at n : ℕ) → at ≤ length file → Last file (take at file) n → n ≤ at → line_front file n ≡ true → Cut file (take n file) (take (at - n) (drop n file)) n
-cut_there file at n within last h b = record {
-  body = take at file;
-  last = last;
-  before = omega (arith, length-take-le at file within);
-  begins = b;
-  rows_are = sym (take-take n at file h);
-  rules_are = between_is file n at;
-}
-
 last_begins : (file body : List ℕ) (n : ℕ) → Last file body n → LineBegins file (length file - 1) (length body)
 last_begins file body n last = record { within = omega (arith, long file body n last); begins = last.begins; free = inside file body n last }
 
@@ -149,9 +130,3 @@ rules_closed file rows rules n c some =
     let there : get_or rules (length rules - 1) 0 ≡ get_or body (length body - 1) 0 = ap (λ xs. get_or xs (length rules - 1) 0) c.rules_are ∙ get_or-drop n body (length rules - 1) 0 ∙ ap (λ j. get_or body j 0) k in
     let before : get_or file (length body - 1) 0 ≡ get_or body (length body - 1) 0 = ap (λ xs. get_or xs (length body - 1) 0) c.last.whole ∙ get_or_append_left body (64 ∷ (decimal n ++ 10 ∷ [])) 0 (length body - 1) (omega arith) in
     there ∙ sym before ∙ after_break file (length body) c.last.begins (omega arith)
-
-pub rules_inside : (file rows rules : List ℕ) (n : ℕ) → sized file ≡ true → Cut file rows rules n → n + length rules ≤ most_bytes
-rules_inside file rows rules n y c =
-    let long : length rules ≡ length c.body - n = ap length c.rules_are ∙ length-drop n c.body in
-    let few = leb-true (length file) most_bytes (and_parts (leb 1 (length file)) (leb (length file) most_bytes) y).1 in
-    omega (arith, long, few, c.before, ap length c.last.whole, length-append c.body (64 ∷ (decimal n ++ 10 ∷ [])))

@@ -14,7 +14,6 @@ const OFFSETS: u32 = 100000;
 pub(crate) struct Parts<'a> {
     pub(crate) rows: &'a [u8],
     pub(crate) rules: &'a [u8],
-    pub(crate) offset: usize,
 }
 
 // Does a line begin at `at`?
@@ -58,6 +57,5 @@ pub(crate) fn split(file: &[u8]) -> Result<Parts<'_>, FormFault>
     Ok(Parts {
         rows: &file[..offset],
         rules: &file[offset..at],
-        offset,
     })
 }
