@@ -1,9 +1,9 @@
 -- The last line of a channel file is found in one way, and so is the cut between rows and rules.
-use Rattle.std.proofs.Common.{◌≡◌, ℕ, zero, suc, ◌+◌, ◌-◌, ◌<◌, ◌≤◌, Bool, true, false, ◌&&◌, eqb, leb, ◌⊎◌, List, [], ◌∷◌, ◌++◌, length, get_or, take, drop, decimal, sym, refl, ap, ◌∙◌, inl, inr, ⊎_elim, arith}
+use Rattle.std.proofs.Common.{◌≡◌, ℕ, zero, suc, ◌+◌, ◌-◌, ◌<◌, ◌≤◌, Bool, true, false, ◌&&◌, eqb, leb, ◌⊎◌, List, [], ◌∷◌, ◌++◌, length, get_or, take, drop, decimal, sym, refl, ap, ◌∙◌, subst, inl, inr, ⊎_elim, arith}
 use Rattle.std.proofs.str.Laws.{order}
-use Rattle.std.proofs.lemmas.Bool.{or_cases, eqb-true, and_from, and_parts, le-leb, leb-true, lt-leb}
-use Rattle.std.proofs.lemmas.List.{take-append-drop, drop_more, drop_all, drop-drop, append_assoc, length-append, length-take-le, get_or_at, get_or_append_left, get_or-append_right, take_at, drop_at, length-drop, get_or-drop, take-take}
-use Rattle.std.proofs.lemmas.Slice.{between_is}
+use Rattle.std.specs.Cmp.Lexicographic.{pointwise, same_text}
+use Rattle.std.proofs.lemmas.Bool.{false≢true, or_cases, eqb-true, and_from, and_parts, le-leb, lt-leb}
+use Rattle.std.proofs.lemmas.List.{take-append-drop, append_assoc, length-append, length-take-le, take-append-le, append_cancel_right, get_or_append_left, get_or-append_right, take_at, drop_at, length-drop, get_or-drop}
 use Rattle.std.proofs.lemmas.Fmt.{digits_decimal, decimal_injective}
 use Rattle.text.proofs.Digits.{Figures, own}
 use Rattle.channel.specs.Faults.{BadOffset}
@@ -30,14 +30,6 @@ module _ (file body : List ℕ) (n : ℕ) (last : Last file body n) where
   pub long : length file ≡ length body + 1 + length (decimal n) + 1
   long = omega (arith, ap length last.whole, length-append body (64 ∷ (decimal n ++ 10 ∷ [])), length-append (decimal n) (10 ∷ []))
 
-  pub at_sign : get_or file (length body) 0 ≡ 64
-  at_sign = ap (λ xs. get_or xs (length body) 0) last.whole ∙ get_or_at body 64 (decimal n ++ 10 ∷ []) 0 (length body) refl
-
-  pub last_byte : get_or file (length file - 1) 0 ≡ 10
-  last_byte =
-      let k : length file - 1 ≡ length body + (1 + length (decimal n)) = omega (arith, long) in
-      ap (λ j. get_or file j 0) k ∙ ap (λ xs. get_or xs (length body + (1 + length (decimal n))) 0) (last.whole ∙ sym (append_assoc body (64 ∷ decimal n) (10 ∷ []))) ∙ get_or_at (body ++ 64 ∷ decimal n) 10 [] 0 (length body + (1 + length (decimal n))) (omega (arith, length-append body (64 ∷ decimal n)))
-
   -- within the last line there is no byte 10
   inside : (k : ℕ) → length body ≤ k → k < length file - 1 → get_or file k 0 ≡ 10 → ⊥
   inside k h l e =
@@ -61,14 +53,39 @@ module _ (file body : List ℕ) (n : ℕ) (last : Last file body n) where
       let d : drop (length body + 1) file ≡ decimal n ++ 10 ∷ [] = ap (drop (length body + 1)) (last.whole ∙ sym (append_assoc body (64 ∷ []) (decimal n ++ 10 ∷ []))) ∙ drop_at (body ++ 64 ∷ []) (decimal n ++ 10 ∷ []) (length body + 1) (omega (arith, length-append body (64 ∷ []))) in
       ap (take (length file - 1 - (length body + 1))) d ∙ take_at (decimal n) (10 ∷ []) (length file - 1 - (length body + 1)) (omega (arith, long))
 
--- what was found is the last line
-pub found : (file : List ℕ) (at n : ℕ) → at < length file - 1 → get_or file (length file - 1) 0 ≡ 10 → get_or file at 0 ≡ 64 → take (length file - 1 - (at + 1)) (drop (at + 1) file) ≡ decimal n → file ≡ take at file ++ 64 ∷ (decimal n ++ 10 ∷ [])
-found file at n h ten sign figs =
-    let m = length file - 1 - (at + 1) in
-    let one : drop (length file - 1) file ≡ 10 ∷ [] = drop_more file (length file - 1) 0 (omega arith) ∙ ap (λ b. b ∷ drop (length file - 1 + 1) file) ten ∙ ap (λ xs. 10 ∷ xs) (drop_all (length file - 1 + 1) file (omega arith)) in
-    let k : at + 1 + m ≡ length file - 1 = omega arith in
-    let two : drop (at + 1) file ≡ decimal n ++ 10 ∷ [] = sym (take-append-drop m (drop (at + 1) file)) ∙ ap (λ xs. xs ++ drop m (drop (at + 1) file)) figs ∙ ap (λ xs. decimal n ++ xs) (drop-drop m (at + 1) file ∙ ap (λ j. drop j file) k ∙ one) in
-    sym (take-append-drop at file) ∙ ap (λ xs. take at file ++ xs) (drop_more file at 0 (omega arith) ∙ ap (λ b. b ∷ drop (at + 1) file) sign ∙ ap (λ xs. 64 ∷ xs) two)
+-- a file whose last byte is a newline, without it
+pub stripped : (file lines : List ℕ) → pointwise eqb (drop (length file - 1) file) (10 ∷ []) ≡ true → lines ≡ take (length file - 1) file → file ≡ lines ++ 10 ∷ []
+stripped file lines t e = sym (take-append-drop (length file - 1) file) ∙ ap (λ xs. take (length file - 1) file ++ xs) (same_text (drop (length file - 1) file) (10 ∷ []) (sym t)) ∙ ap (λ xs. xs ++ 10 ∷ []) (sym e)
+
+-- a line that begins with `@`, and what follows it
+pub at_first : (line figures : List ℕ) → pointwise eqb (take 1 line) (64 ∷ []) ≡ true → figures ≡ drop 1 line → line ≡ 64 ∷ figures
+at_first [] figures t e = absurd (false≢true t)
+at_first (x ∷ xs) figures t e = ap (λ y. y ∷ xs) (eqb-true x 64 (and_parts (eqb x 64) true t).0) ∙ ap (λ ys. 64 ∷ ys) (sym e)
+
+module _ (file lines : List ℕ) (ends : file ≡ lines ++ 10 ∷ []) where
+  long_lines : length lines ≡ length file - 1
+  long_lines = omega (arith, ap length ends, length-append lines (10 ∷ []))
+
+  -- what was found is the last line
+  pub found : (at n : ℕ) → at ≤ length lines → drop at lines ≡ 64 ∷ decimal n → file ≡ take at file ++ 64 ∷ (decimal n ++ 10 ∷ [])
+  found at n h left =
+      let front : take at lines ≡ take at file = sym (take-append-le at lines (10 ∷ []) h) ∙ ap (take at) (sym ends) in
+      ends ∙ ap (λ xs. xs ++ 10 ∷ []) (sym (take-append-drop at lines) ∙ ap (λ xs. take at lines ++ xs) left ∙ ap (λ xs. xs ++ 64 ∷ decimal n) front) ∙ append_assoc (take at file) (64 ∷ decimal n) (10 ∷ [])
+
+  -- the last line, where it is lawful
+  pub last_there : (at n : ℕ) (body : List ℕ) → LineBegins file (length lines) at → Last file body n → drop at lines ≡ 64 ∷ decimal n
+  last_there at n body f last =
+      let k : at ≡ length body = one_front file body n last at (subst (λ j. LineBegins file j at) long_lines f) in
+      let whole : lines ≡ body ++ 64 ∷ decimal n = append_cancel_right lines (body ++ 64 ∷ decimal n) (10 ∷ []) (sym ends ∙ last.whole ∙ sym (append_assoc body (64 ∷ decimal n) (10 ∷ []))) in
+      ap (drop at) whole ∙ drop_at body (64 ∷ decimal n) at (sym k)
+
+-- a lawful last line is not told from a file without a newline at its end
+pub no_newline : (file body : List ℕ) (n : ℕ) → pointwise eqb (drop (length file - 1) file) (10 ∷ []) ≡ false → Last file body n → ⊥
+no_newline file body n t last =
+    let line = 64 ∷ decimal n in
+    let whole : file ≡ (body ++ line) ++ 10 ∷ [] = last.whole ∙ sym (append_assoc body line (10 ∷ [])) in
+    let d : drop (length file - 1) file ≡ 10 ∷ [] = ap (drop (length file - 1)) whole ∙ drop_at (body ++ line) (10 ∷ []) (length file - 1) (omega (arith, ap length whole, length-append (body ++ line) (10 ∷ []))) in
+    false≢true (sym t ∙ ap (λ xs. pointwise eqb xs (10 ∷ [])) d)
 
 pub fits_sized : (file : List ℕ) → (length file ≡ 0 → ⊥) → length file ≤ most_bytes → sized file ≡ true
 fits_sized file some few = and_from (leb 1 (length file)) (leb (length file) most_bytes) (le-leb 1 (length file) (omega arith)) (le-leb (length file) most_bytes few)
@@ -84,18 +101,6 @@ past_the_sign file at n within last h =
 
 pub no_front : (file : List ℕ) (at n : ℕ) → Last file (take at file) n → line_front file n ≡ false → BadOffset file
 no_front file at n last f = record { body = take at file; n = n; last = last; bad = no_second (leb n (length (take at file))) (line_front file n) f }
-
-pub cut_there : (file : List ℕ) (at n : ℕ) → at ≤ length file → Last file (take at file) n → n ≤ at → line_front file n ≡ true → Cut file (take (n - 0) file) (take (at - n) (drop n file)) n
-cut_there file at n within last h b =
-    let z : n - 0 ≡ n = omega arith in
-    record {
-      body = take at file;
-      last = last;
-      before = omega (arith, length-take-le at file within);
-      begins = b;
-      rows_are = ap (λ k. take k file) z ∙ sym (take-take n at file h);
-      rules_are = between_is file n at;
-    }
 
 last_begins : (file body : List ℕ) (n : ℕ) → Last file body n → LineBegins file (length file - 1) (length body)
 last_begins file body n last = record { within = omega (arith, long file body n last); begins = last.begins; free = inside file body n last }
@@ -125,9 +130,3 @@ rules_closed file rows rules n c some =
     let there : get_or rules (length rules - 1) 0 ≡ get_or body (length body - 1) 0 = ap (λ xs. get_or xs (length rules - 1) 0) c.rules_are ∙ get_or-drop n body (length rules - 1) 0 ∙ ap (λ j. get_or body j 0) k in
     let before : get_or file (length body - 1) 0 ≡ get_or body (length body - 1) 0 = ap (λ xs. get_or xs (length body - 1) 0) c.last.whole ∙ get_or_append_left body (64 ∷ (decimal n ++ 10 ∷ [])) 0 (length body - 1) (omega arith) in
     there ∙ sym before ∙ after_break file (length body) c.last.begins (omega arith)
-
-pub rules_inside : (file rows rules : List ℕ) (n : ℕ) → sized file ≡ true → Cut file rows rules n → n + length rules ≤ most_bytes
-rules_inside file rows rules n y c =
-    let long : length rules ≡ length c.body - n = ap length c.rules_are ∙ length-drop n c.body in
-    let few = leb-true (length file) most_bytes (and_parts (leb 1 (length file)) (leb (length file) most_bytes) y).1 in
-    omega (arith, long, few, c.before, ap length c.last.whole, length-append c.body (64 ∷ (decimal n ++ 10 ∷ [])))

@@ -8,7 +8,9 @@ use Rattle.rule.proofs.Earned.{earned_is_unlawful, one_fault}
 use Rattle.rule.specs.Faults.{Sized}
 use Rattle.rule.specs.Grammar.{Lawful}
 use Rattle.text.proofs.Cuts.{one_end, piece_and_rest, piece_without, rest_ends_here, delimiter_next, went_on}
+use Rattle.text.specs.Lines.{IsLine}
 use Rattle.text.specs.Pieces.{PieceEnd, Without}
+use Rattle.std.specs.declared.ops.Range.{Range}
 use Rattle.channel.specs.RuleLines.{most_rules, with_newline, RuleLine, RuleLines, LineEarns, RulesEarn}
 use Rattle.channel.specs.Steps.{Closed, ReadSoFar}
 use Rattle.channel.specs.declared.cause.Cause.{Cause}
@@ -18,8 +20,8 @@ text_is : (l : List ℕ) (ls : List (List ℕ)) (left : List ℕ) → flat_map w
 text_is l ls left = append_assoc (with_newline l) (flat_map with_newline ls) left ∙ append_assoc l (10 ∷ []) (flat_map with_newline ls ++ left)
 
 not_empty : (a b : List ℕ) → [] ≡ a ++ 10 ∷ b → ⊥
-not_empty [] b e = let z : ◌≡◌ {A = ℕ} 0 1 = cc in omega arith
-not_empty (x ∷ a) b e = let z : ◌≡◌ {A = ℕ} 0 1 = cc in omega arith
+not_empty [] b e = cc
+not_empty (x ∷ a) b e = cc
 
 -- lines are read in one way
 one_list : (ls ls' : List (List ℕ)) → AllByRecursion RuleLine ls → AllByRecursion RuleLine ls' → flat_map with_newline ls ++ [] ≡ flat_map with_newline ls' ++ [] → ls ≡ ls'
@@ -87,52 +89,56 @@ one_refusal offset part front front' c c' b b' =
     let q = first_refused 0 b.before b'.before b.line b.after b'.line b'.after c c' (omega (arith, b.few)) (omega (arith, b'.few)) b.each b'.each b.one_line b'.one_line (subst (λ j. LineEarns j b.line c) z b.earned) (subst (λ j. LineEarns j b'.line c') z' b'.earned) (sym b.whole ∙ b'.whole) in
     (omega (arith, b.front_is, b'.front_is, q.0), q.1)
 
--- nothing is read yet
-pub none_read : (part : List ℕ) → ReadSoFar part 0 0
-none_read part = record { lines = []; whole = refl; each = tt; laid_are = refl; few = omega arith; within = omega arith }
+module _ (part : List ℕ) (at behind laid : ℕ) (place : Range ℕ) (so : ReadSoFar part at laid) (is : IsLine part at behind place) where
+  abbrev line : List ℕ
+  line = take (place.end - place.start) (drop place.start part)
 
--- a line of a closed part ends inside it
-pub ends_inside : (part : List ℕ) (at end : ℕ) → Closed part → at < length part → PieceEnd 10 part at end → end < length part
-ends_inside part at end c h s = ⊎_elim (λ l. l) (λ l. absurd (s.free (length part - 1) (omega arith) (omega arith) (c (omega arith)))) (order end (length part))
+  here : take (place.end - at) (drop at part) ≡ line
+  here = ap (λ k. take (place.end - k) (drop k part)) (sym is.front)
 
-module _ (part : List ℕ) (at end laid : ℕ) (so : ReadSoFar part at laid) (s : PieceEnd 10 part at end) (h : end < length part) where
-  line_there : drop at part ≡ take (end - at) (drop at part) ++ 10 ∷ drop (end + 1) part
-  line_there = piece_and_rest part at end 10 s ∙ ap (λ xs. take (end - at) (drop at part) ++ xs) (delimiter_next 10 part end (rest_ends_here part at end 10 s) h)
+  free : Without 10 line
+  free = subst (Without 10) here (piece_without part at place.end 10 is.ends)
 
-  whole_there : part ≡ flat_map with_newline so.lines ++ (take (end - at) (drop at part) ++ 10 ∷ drop (end + 1) part)
-  whole_there = so.whole ∙ ap (λ xs. flat_map with_newline so.lines ++ xs) line_there
+  whole_there : part ≡ flat_map with_newline so.lines ++ (line ++ 10 ∷ drop behind part)
+  whole_there =
+      so.whole
+      ∙ ap (λ xs. flat_map with_newline so.lines ++ xs) (piece_and_rest part at place.end 10 is.ends ∙ ap (λ xs. take (place.end - at) (drop at part) ++ xs) (delimiter_next 10 part place.end (rest_ends_here part at place.end 10 is.ends) is.ended))
+      ∙ ap (λ xs. flat_map with_newline so.lines ++ (xs ++ 10 ∷ drop (place.end + 1) part)) here
+      ∙ ap (λ k. flat_map with_newline so.lines ++ (line ++ 10 ∷ drop k part)) (sym is.next)
 
-  pub one_more : laid < most_rules → Sized (take (end - at) (drop at part)) → Lawful (take (end - at) (drop at part)) → ReadSoFar part (end + 1) (laid + 1)
+  pub one_more : laid < most_rules → Sized line → Lawful line → ReadSoFar part behind (laid + 1)
   one_more room sized lawful =
-      let line = take (end - at) (drop at part) in
       let ls = so.lines in
       record {
         lines = ls ++ line ∷ [];
-        whole = whole_there ∙ ap (λ xs. flat_map with_newline ls ++ xs) (sym (append_assoc line (10 ∷ []) (drop (end + 1) part))) ∙ sym (append_assoc (flat_map with_newline ls) (with_newline line) (drop (end + 1) part)) ∙ ap (λ xs. xs ++ drop (end + 1) part) (flat_map_more with_newline [] ls line);
-        each = all_by_recursion_push RuleLine ls line so.each (record { one_line = piece_without part at end 10 s; sized = sized; lawful = lawful });
+        whole = whole_there ∙ ap (λ xs. flat_map with_newline ls ++ xs) (sym (append_assoc line (10 ∷ []) (drop behind part))) ∙ sym (append_assoc (flat_map with_newline ls) (with_newline line) (drop behind part)) ∙ ap (λ xs. xs ++ drop behind part) (flat_map_more with_newline [] ls line);
+        each = all_by_recursion_push RuleLine ls line so.each (record { one_line = free; sized = sized; lawful = lawful });
         laid_are = omega (arith, so.laid_are, length_push ls line);
         few = omega arith;
-        within = omega arith;
+        within = omega (arith, is.next, is.ended);
       }
 
-  pub refused_there : (offset front : ℕ) (cause : Cause) → front ≡ offset + at → LineEarns laid (take (end - at) (drop at part)) cause → RulesEarn offset part front cause
+  pub refused_there : (offset front : ℕ) (cause : Cause) → front ≡ offset + place.start → LineEarns laid line cause → RulesEarn offset part front cause
   refused_there offset front cause e b =
       let far : at ≡ 0 + length (flat_map with_newline so.lines) = went_on part part 0 at (flat_map with_newline so.lines) refl (omega arith) so.within so.whole in
       record {
         before = so.lines;
-        line = take (end - at) (drop at part);
-        after = drop (end + 1) part;
+        line = line;
+        after = drop behind part;
         whole = whole_there;
         each = so.each;
         few = omega (arith, so.few, so.laid_are);
-        one_line = piece_without part at end 10 s;
-        front_is = omega (arith, e, far);
-        earned = subst (λ j. LineEarns j (take (end - at) (drop at part)) cause) so.laid_are b;
+        one_line = free;
+        front_is = omega (arith, e, far, is.front);
+        earned = subst (λ j. LineEarns j line cause) so.laid_are b;
       }
 
-pub all_read : (part : List ℕ) (at laid : ℕ) → length part ≤ at → (so : ReadSoFar part at laid) → RuleLines part so.lines
-all_read part at laid h so = record {
-  whole = so.whole ∙ ap (λ xs. flat_map with_newline so.lines ++ xs) (drop_all at part h) ∙ append-nil (flat_map with_newline so.lines);
-  each = so.each;
-  few = omega (arith, so.few, so.laid_are);
-}
+-- where no byte 10 is left, all of a closed part is read
+pub all_read : (part : List ℕ) (at laid : ℕ) → Closed part → PieceEnd 10 part at (length part) → (so : ReadSoFar part at laid) → RuleLines part so.lines
+all_read part at laid c s so =
+    let h : length part ≤ at = ⊎_elim (λ l. absurd (s.free (length part - 1) (omega arith) (omega arith) (c (omega arith)))) (λ l. l) (order at (length part)) in
+    record {
+      whole = so.whole ∙ ap (λ xs. flat_map with_newline so.lines ++ xs) (drop_all at part h) ∙ append-nil (flat_map with_newline so.lines);
+      each = so.each;
+      few = omega (arith, so.few, so.laid_are);
+    }

@@ -28,7 +28,7 @@ LastOr file (Some r) = (r.0 ≤ length file) × Last file (take r.0 file) r.1
 LastOr file None = (body : List ℕ) (n : ℕ) → Last file body n → ⊥
 
 abbrev pub PartsOr : List ℕ → Result Parts FormFault → Type 0
-PartsOr file (Ok p) = (sized file ≡ true) × Cut file p.rows.now p.rules.now p.offset
+PartsOr file (Ok p) = (sized file ≡ true) × Cut file p.rows.now p.rules.now (length p.rows.now)
 PartsOr file (Err e) = FileEarns file (Form e)
 
 -- nothing, or ended by byte 10

@@ -1,5 +1,5 @@
 // What can be wrong with a listing's buffer or file. Faults of rows and of rule lines are carried whole.
-ghost use Rattle.std.specs.Prelude.{◌≡◌};
+ghost use Rattle.std.specs.Prelude.{◌≡◌, Some};
 ghost use Rattle.channel.specs.Faults.{layer as layer_of, number as number_of, place as place_of, word};
 ghost use Rattle.channel.specs.declared.fault.FileFault.TheVariants.{Form, Rows, Rules, Memory};
 
@@ -7,6 +7,7 @@ use crate::cause::Cause;
 use crate::line::LineFault;
 use rowtext::fault::RowFault;
 use std::alloc::AllocError;
+use std::fmt;
 
 // What can be wrong with a file before its rows are looked at.
 #[derive(Clone, Copy, PartialEq, Eq, Debug)]
@@ -58,6 +59,14 @@ impl Layer {
     }
 }
 
+impl fmt::Display for Layer {
+    ghost output = { λ l. Some (word l) };
+
+    fn fmt<W: fmt::Write>(&self, f: &mut fmt::Formatter<W>) -> fmt::Result {
+        f.write_str(self.word())
+    }
+}
+
 impl FileFault {
     // The number by which the fault is told; want of memory has none.
     pub fn number(&self) -> Option<u8>
@@ -104,6 +113,7 @@ impl FileFault {
     }
 }
 
+// Written out, here and below: a clause names the error that `?` makes by it.
 impl From<FormFault> for FileFault {
     ghost from_gives = { λ e r. r ≡ Form e };
 

@@ -27,7 +27,7 @@ fn header_line(heap: Global, states: u16, rules: usize) -> Result<String, AllocE
 fn refused_line(heap: Global, number: u8, fault: FileFault) -> Result<String, AllocError>
     ensures { IfOk result (λ s. LineText (refused_bytes number fault) (string_bytes s)) }
 {
-    let layer = fault.layer().word();
+    let layer = fault.layer();
     let place = fault.place();
     format!(in heap; "refused {number} {layer} {place}\n")
 }
@@ -39,7 +39,7 @@ fn put(buffer: &mut [u8], text: &str) -> usize
     ensures bytes { buffer.new ≡ text.now ++ drop result buffer.old }
 {
     let n = text.len();
-    buffer[0..n].copy_from_slice(text.as_bytes());
+    buffer[..n].copy_from_slice(text.as_bytes());
     n
 }
 

@@ -14,7 +14,6 @@ const OFFSETS: u32 = 100000;
 pub(crate) struct Parts<'a> {
     pub(crate) rows: &'a [u8],
     pub(crate) rules: &'a [u8],
-    pub(crate) offset: usize,
 }
 
 // Does a line begin at `at`?
@@ -30,54 +29,33 @@ fn front_of_line(file: &[u8], end: usize) -> usize
     requires { end ≤ length file.now }
     ensures { LineBegins file.now end result }
 {
-    let mut at = end;
-    while at > 0 && file[at - 1] != b'\n' {
-        at -= 1;
-    }
-    at
+    let newline = file[..end].iter().rposition(|b| *b == b'\n');
+    newline.map_or(0, |at| at + 1)
 }
 
 // The place of the last line's `@`, and the offset after it.
 fn last_line(file: &[u8]) -> Option<(usize, usize)>
-    requires { 0 < length file.now }
     ensures { LastOr file.now result }
 {
-    let end = file.len() - 1;
-    if file[end] != b'\n' {
-        return None;
-    }
-    let at = front_of_line(file, end);
-    if at == end {
-        return None;
-    }
-    if file[at] != b'@' {
-        return None;
-    }
-    match number(&file[at + 1..end], OFFSETS) {
-        Some(offset) => Some((at, offset as usize)),
-        None => None,
-    }
+    let lines = file.strip_suffix(b"\n")?;
+    let at = front_of_line(file, lines.len());
+    let figures = lines[at..].strip_prefix(b"@")?;
+    let offset = number(figures, OFFSETS)?;
+    Some((at, offset as usize))
 }
 
 pub(crate) fn split(file: &[u8]) -> Result<Parts<'_>, FormFault>
     ensures { PartsOr file.now result }
 {
-    if file.len() == 0 || file.len() > MOST_BYTES {
+    if file.is_empty() || file.len() > MOST_BYTES {
         return Err(FormFault::Size);
     }
-    let (at, offset) = match last_line(file) {
-        Some(found) => found,
-        None => return Err(FormFault::LastLine),
-    };
-    if offset > at {
-        return Err(FormFault::Offset);
-    }
-    if !is_line_front(file, offset) {
+    let (at, offset) = last_line(file).ok_or(FormFault::LastLine)?;
+    if offset > at || !is_line_front(file, offset) {
         return Err(FormFault::Offset);
     }
     Ok(Parts {
-        rows: &file[0..offset],
+        rows: &file[..offset],
         rules: &file[offset..at],
-        offset,
     })
 }

@@ -7,7 +7,7 @@ use crate::cause::Cause;
 use crate::line::LineFault;
 use rule_reader::read_rule;
 use std::alloc::Global;
-use text::pieces::piece_end;
+use text::lines::Lines;
 
 // A file has at most so many rules.
 const MOST_RULES: usize = 16;
@@ -23,6 +23,7 @@ fn read_line(heap: Global, line: &[u8], front: usize, laid: usize) -> Result<(),
             cause: Cause::TooMany,
         });
     }
+    // No `map_err`: its closure would have to ask for what keeps the fault's place small.
     match read_rule(heap, line) {
         Ok(_) => Ok(()),
         Err(fault) => Err(LineFault {
@@ -39,12 +40,10 @@ pub(crate) fn read_rules(heap: Global, rules: &[u8], offset: usize) -> Result<us
     ensures { RulesOr offset rules.now result }
 {
     let mut laid = 0;
-    let mut at = 0;
-    while at < rules.len() {
-        let end = piece_end(rules, at, b'\n');
-        read_line(heap, &rules[at..end], offset + at, laid)?;
+    for line in Lines::of(rules) {
+        let front = offset + line.start;
+        read_line(heap, &rules[line], front, laid)?;
         laid += 1;
-        at = end + 1;
     }
     Ok(laid)
 }

@@ -24,6 +24,6 @@ pub(crate) fn summary_of(heap: Global, file: &[u8]) -> Result<Summary, FileFault
         return Err(FileFault::NoStart);
     }
     let states = model.count();
-    let rules = read_rules(heap, parts.rules, parts.offset)?;
+    let rules = read_rules(heap, parts.rules, parts.rows.len())?;
     Ok(Summary { states, rules })
 }

@@ -153,17 +153,10 @@ const FILLER: u8 = 7;
 // The file gets this line, and what stands behind it in the buffer is left alone.
 fn gets(heap: Global, file: &str, line: &str) -> Result<(), Fail> {
     let mut buffer = [FILLER; 1100];
-    let length = match listing(heap, file.as_bytes(), &mut buffer) {
-        Ok(n) => n,
-        Err(refusal) => refusal.length,
-    };
-    if &buffer[0..length] != line.as_bytes() {
+    let answer = listing(heap, file.as_bytes(), &mut buffer);
+    let (written, rest) = buffer.split_at(answer.unwrap_or_else(|refusal| refusal.length));
+    if written != line.as_bytes() || rest.iter().any(|b| *b != FILLER) {
         return Err(Fail::new(file));
-    }
-    for b in buffer[length..].iter() {
-        if *b != FILLER {
-            return Err(Fail::new(file));
-        }
     }
     Ok(())
 }
@@ -174,28 +167,16 @@ const ROW: &str =
 
 // A rule line of so many bytes: a letter behind spaces.
 fn rule_line(heap: Global, bytes: usize) -> Result<String, AllocError> {
-    let mut line = String::new(heap);
-    for _ in 1..bytes {
-        line.push_str(" ")?;
-    }
-    line.push_str("a\n")?;
-    Ok(line)
+    let spaces = " ".repeat(heap, bytes.saturating_sub(1))?;
+    format!(in heap; "{spaces}a\n")
 }
 
 // A lawful file of 64 states with all moves and twelve rules, the last rule line of so many bytes.
 fn padded(heap: Global, last: usize) -> Result<String, AllocError> {
-    let mut text = String::new(heap);
-    for _ in 0..64 {
-        text.push_str(ROW)?;
-    }
-    for _ in 0..11 {
-        let line = rule_line(heap, 255)?;
-        text.push_str(line.as_str())?;
-    }
-    let line = rule_line(heap, last)?;
-    text.push_str(line.as_str())?;
-    text.push_str("@13440\n")?;
-    Ok(text)
+    let rows = ROW.repeat(heap, 64)?;
+    let eleven = rule_line(heap, 255)?.repeat(heap, 11)?;
+    let twelfth = rule_line(heap, last)?;
+    format!(in heap; "{rows}{eleven}{twelfth}@13440\n")
 }
 
 #[test]
@@ -229,15 +210,11 @@ fn a_rule_line_may_have_255_bytes_and_no_more(rt: HostRuntime) -> Result<(), Fai
 #[test]
 fn a_buffer_of_1023_bytes_is_left_alone(rt: HostRuntime) -> Result<(), Fail> {
     let mut buffer = [FILLER; 1023];
-    match listing(rt.alloc(), b"*>0\n@4\n", &mut buffer) {
-        Ok(_) => return Err(Fail::new("a short buffer was taken")),
-        Err(refusal) => {
-            assert_eq!(rt; refusal.length, 0);
-            assert_eq!(rt; refusal.fault, FileFault::Buffer);
-        }
-    }
-    for b in buffer.iter() {
-        assert!(rt; *b == FILLER);
-    }
+    let Err(refusal) = listing(rt.alloc(), b"*>0\n@4\n", &mut buffer) else {
+        return Err(Fail::new("a short buffer was taken"));
+    };
+    assert_eq!(rt; refusal.length, 0);
+    assert_eq!(rt; refusal.fault, FileFault::Buffer);
+    assert!(rt; buffer.iter().all(|b| *b == FILLER));
     Ok(())
 }

@@ -204,31 +204,26 @@ const REFUSED: [Refused; 38] = [
     },
 ];
 
-// The number and the place that a text is refused with, or 0 and 0.
-fn answer(heap: Global, text: &[u8]) -> Result<(u8, usize), Fail> {
+// The number and the place that a text is refused with, if it is.
+fn answer(heap: Global, text: &[u8]) -> Result<Option<(u8, usize)>, Fail> {
     let mut table = RowModel::new(heap)?;
     match table.fill(heap, text) {
-        Ok(()) => Ok((0, 0)),
-        Err(e) => Ok((e.number().ok_or("no memory")?, e.place())),
+        Ok(()) => Ok(None),
+        Err(e) => Ok(Some((e.number().ok_or("no memory")?, e.place()))),
     }
 }
 
 // So many lines, each with the last of them for its target.
 fn lines(heap: Global, count: usize) -> Result<String, AllocError> {
-    let mut text = String::new(heap);
-    for _ in 0..count {
-        let last = count.saturating_sub(1);
-        let line = format!(in heap; "-az>{last}\n")?;
-        text.push_str(line.as_str())?;
-    }
-    Ok(text)
+    let last = count.saturating_sub(1);
+    format!(in heap; "-az>{last}\n")?.repeat(heap, count)
 }
 
 #[test]
 fn each_broken_text_has_its_number_and_place(rt: HostRuntime) -> Result<(), Fail> {
     for case in REFUSED.iter() {
         let got = answer(rt.alloc(), case.text.as_bytes())?;
-        assert_eq!(rt; got, (case.number, case.place), "{}", case.text);
+        assert_eq!(rt; got, Some((case.number, case.place)), "{}", case.text);
     }
     Ok(())
 }
@@ -236,8 +231,8 @@ fn each_broken_text_has_its_number_and_place(rt: HostRuntime) -> Result<(), Fail
 #[test]
 fn sixty_four_lines_are_taken_and_sixty_five_are_not(rt: HostRuntime) -> Result<(), Fail> {
     let heap = rt.alloc();
-    assert_eq!(rt; answer(heap, lines(heap, 64)?.as_bytes())?, (0, 0));
-    assert_eq!(rt; answer(heap, lines(heap, 65)?.as_bytes())?, (16, 0));
+    assert_eq!(rt; answer(heap, lines(heap, 64)?.as_bytes())?, None);
+    assert_eq!(rt; answer(heap, lines(heap, 65)?.as_bytes())?, Some((16, 0)));
     Ok(())
 }
 
@@ -270,10 +265,10 @@ fn a_filled_model_answers_as_its_text_says(rt: HostRuntime) -> Result<(), Fail> 
 fn a_refused_fill_leaves_the_model(rt: HostRuntime) -> Result<(), Fail> {
     let mut table = RowModel::new(rt.alloc())?;
     assert!(rt; table.fill(rt.alloc(), b"-a>1\n*b>0\n").is_ok());
-    match table.fill(rt.alloc(), b"*>0\n-b>2\n") {
-        Ok(()) => return Err(Fail::new("a target past the count was taken")),
-        Err(e) => assert_eq!(rt; e, RowFault::Beyond(7)),
-    }
+    assert_eq!(rt;
+        table.fill(rt.alloc(), b"*>0\n-b>2\n"),
+        Err(RowFault::Beyond(7))
+    );
     assert_eq!(rt; table.count(), 2);
     assert!(rt; table.starts(1) && !table.starts(0) && table.carries(0, b'a') && table.moves(1, 0));
     Ok(())

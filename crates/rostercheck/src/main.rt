@@ -14,11 +14,9 @@ fn main(rt: HostRuntime) -> anyhow::Result<()> {
     let mut buffer = [0u8; LEAST_BUFFER];
     let length = match listing(rt.alloc(), &file, &mut buffer) {
         Ok(length) => length,
-        Err(refusal) => refusal.length,
+        Err(refusal) if refusal.fault.number().is_some() => refusal.length,
+        Err(_) => return Err(anyhow!("no memory")),
     };
-    if length == 0 {
-        return Err(anyhow!("no memory"));
-    }
-    rt.stdout().write_all(&buffer[0..length])?;
+    rt.stdout().write_all(&buffer[..length])?;
     Ok(())
 }

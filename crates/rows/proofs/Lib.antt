@@ -1,3 +1,1 @@
-mod Asked
 mod GoingOn
-mod Starting

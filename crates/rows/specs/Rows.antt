@@ -1,5 +1,6 @@
 -- What rows mean as a model, and the invariant that makes it a total one. Assumes nothing.
-use Rattle.std.specs.Prelude.{◌≡◌, ℕ, Bool, true, false, ◌&&◌, ◌||◌, List, [], ◌∷◌, map, length, vec_items, ◌==◌, nat_lt, slice_index_or}
+use Rattle.std.specs.Prelude.{◌≡◌, ℕ, Bool, true, false, List, [], ◌∷◌, map, length, vec_items, ◌==◌, nat_lt, slice_index_or}
+use Rattle.std.specs.List.{list_all, list_any}
 use Rattle.model.specs.Meaning.{Meaning}
 use Rattle.rowtext.specs.Faults.{Earns}
 use Rattle.rowtext.specs.Format.{Line, Describes}
@@ -12,13 +13,11 @@ resting = record { start = true; marks = []; targets = 0 ∷ [] }
 
 -- some line is a start's
 abbrev pub some_start : List Line → Bool
-some_start [] = false
-some_start (l ∷ ls) = l.start || some_start ls
+some_start ls = list_any (λ l. l.start) ls
 
 -- the number stands in the list
 abbrev pub has : List ℕ → ℕ → Bool
-has [] x = false
-has (y ∷ ys) x = y == x || has ys x
+has xs x = list_any (λ y. y == x) xs
 
 -- the model of these rows: row s tells of state s
 abbrev pub rows_meaning : List Row → Meaning
@@ -31,13 +30,11 @@ rows_meaning rows = record {
 
 -- some target is below n
 abbrev pub some_below : ℕ → List ℕ → Bool
-some_below n [] = false
-some_below n (t ∷ ts) = nat_lt t n || some_below n ts
+some_below n ts = list_any (λ t. nat_lt t n) ts
 
 -- each row has such a target
 abbrev pub each_goes_on : ℕ → List Row → Bool
-each_goes_on n [] = true
-each_goes_on n (r ∷ rs) = some_below n (vec_items r.targets) && each_goes_on n rs
+each_goes_on n rows = list_all (λ r. some_below n (vec_items r.targets)) rows
 
 -- every row has a target below the count of rows
 abbrev pub GoesOn : List Row → Type 0

@@ -13,30 +13,25 @@ impl ChannelModel for RowModel {
     }
 
     fn starts(&self, state: u16) -> bool {
-        match self.rows.get(state as usize) {
-            Some(row) => row.start,
-            None => false, // no row, no start
-        }
+        self.rows
+            .get(usize::from(state))
+            .is_some_and(|row| row.start)
     }
 
     fn moves(&self, from: u16, to: u16) -> bool {
-        if to as usize >= self.rows.len() {
-            return false;
-        }
-        match self.rows.get(from as usize) {
-            Some(row) => row.targets.contains(&to),
-            None => false,
-        }
+        usize::from(to) < self.rows.len()
+            && self
+                .rows
+                .get(usize::from(from))
+                .is_some_and(|row| row.targets.contains(&to))
     }
 
     fn carries(&self, state: u16, mark: u8) -> bool {
-        if mark < b'a' || mark > b'z' {
-            return false;
-        }
-        match self.rows.get(state as usize) {
-            Some(row) => row.marks.contains(&mark),
-            None => false,
-        }
+        mark.is_ascii_lowercase()
+            && self
+                .rows
+                .get(usize::from(state))
+                .is_some_and(|row| row.marks.contains(&mark))
     }
 }
 

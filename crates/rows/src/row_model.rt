@@ -10,6 +10,8 @@ use rowtext::row::Row;
 use std::alloc::{AllocError, Global};
 
 // Few rows, each with a target below the count: so every state has a move, without a test.
+// It is not seen as a list of lines by the language's own `Model`: the law of `TotalModel` is to hold
+// of every value that a clause can name, and a list of lines need not go on.
 #[derive(Drop)]
 pub struct RowModel {
     pub(crate) rows: Vec<Row>,
@@ -22,14 +24,12 @@ impl RowModel {
     pub fn new(heap: Global) -> Result<RowModel, AllocError>
         ensures { IfOk result (λ m. lines_of m.rows.items ≡ resting ∷ []) }
     {
-        let mut targets = Vec::new(heap);
-        targets.push(0)?;
-        let mut rows = Vec::new(heap);
-        rows.push(Row {
+        let resting = Row {
             start: true,
             marks: Vec::new(heap),
-            targets,
-        })?;
+            targets: vec![in heap; 0]?,
+        };
+        let rows = vec![in heap; resting]?;
         Ok(RowModel { rows })
     }
 
@@ -40,8 +40,7 @@ impl RowModel {
         ensures model { MatchResult result (λ _. Describes text.now (lines_of self.new.rows.items)) (λ _. self.new ≡ self.old) }
         ensures fault { IfErr result (λ e. (e ≡ Memory) ⊎ RefusedText text.now e) }
     {
-        let rows = lawful_rows(heap, text)?;
-        self.rows = rows;
+        self.rows = lawful_rows(heap, text)?;
         Ok(())
     }
 
@@ -49,10 +48,6 @@ impl RowModel {
     pub fn has_start(&self) -> bool
         ensures { result ≡ some_start (lines_of self.now.rows.items) }
     {
-        let mut any = false;
-        for row in self.rows.iter() {
-            any = any | row.start;
-        }
-        any
+        self.rows.iter().any(|row| row.start)
     }
 }

@@ -10,7 +10,7 @@ use Rattle.rowtext.specs.declared.row.Row.{Row}
 use Rattle.std.specs.Option.{option_or}
 
 option_or_parts : (a b : Option ℕ) → option_or a b ≡ None → (a ≡ None) × (b ≡ None)
-option_or_parts (Some p) b e = let z : ◌≡◌ {A = ℕ} 0 1 = cc in absurd (omega arith)
+option_or_parts (Some p) b e = absurd (cc)
 option_or_parts None b e = (refl, e)
 
 pub none_beyond_target : (n at : ℕ) (ts : List ℕ) → targets_beyond n at ts ≡ None → AllByRecursion (λ t. t < n) ts
@@ -18,7 +18,7 @@ none_beyond_target n at [] e = tt
 none_beyond_target n at (t ∷ ts) e =
     ⊎_elim
     (λ h. (h, none_beyond_target n (at + length (with_comma t)) ts (sym (ap (λ b. cond b (Some at) (targets_beyond n (at + length (with_comma t)) ts)) (lt-leb n t h)) ∙ e)))
-    (λ h. let f = sym (ap (λ b. cond b (Some at) (targets_beyond n (at + length (with_comma t)) ts)) (le-leb n t h)) ∙ e in let z : ◌≡◌ {A = ℕ} 0 1 = cc in absurd (omega arith))
+    (λ h. let f = sym (ap (λ b. cond b (Some at) (targets_beyond n (at + length (with_comma t)) ts)) (le-leb n t h)) ∙ e in absurd (cc))
     (order t n)
 
 pub none_beyond : (n at : ℕ) (ls : List Line) → text_beyond n at ls ≡ None → AllByRecursion (Below n) ls

@@ -10,13 +10,6 @@ use Rattle.rowtext.specs.declared.fault.RowFault.{RowFault}
 use Rattle.std.specs.Option.{option_or}
 use Rattle.rowtext.specs.declared.fault.RowFault.TheVariants.{Sign, Marks, Target, Memory}
 
-pub signless : (b : ℕ) (bs : List ℕ) → (b ≡ 42 → ⊥) → (b ≡ 45 → ⊥) → (s : Bool) (more : List ℕ) → b ∷ bs ≡ sign s ∷ more → ⊥
-signless b bs star dash true more e = star (cc)
-signless b bs star dash false more e = dash (cc)
-
-pub none_there : (s : Bool) (more : List ℕ) → [] ≡ sign s ∷ more → ⊥
-none_there s more e = let z : ◌≡◌ {A = ℕ} 0 1 = cc in omega arith
-
 pub rising_push : (low top : ℕ) (xs : List ℕ) (x : ℕ) → Rising low top xs → least_next low xs ≤ x → x < top → Rising low top (xs ++ x ∷ [])
 rising_push low top [] x c l h = (l, h, tt)
 rising_push low top (y ∷ xs) x c l h = (c.0, c.1, rising_push (suc y) top xs x c.2 l h)

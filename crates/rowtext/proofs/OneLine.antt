@@ -22,9 +22,9 @@ Halts low (b ∷ bs) = low ≤ b → b < 123 → ⊥
 
 one_run : (low : ℕ) (ms left ms' left' : List ℕ) → Rising low 123 ms → Rising low 123 ms' → Halts (least_next low ms) left → Halts (least_next low ms') left' → ms ++ left ≡ ms' ++ left' → ms ≡ ms'
 one_run low [] left [] left' c c' h h' e = refl
-one_run low [] [] (m' ∷ ms') left' c c' h h' e = let z : ◌≡◌ {A = ℕ} 0 1 = cc in absurd (omega arith)
+one_run low [] [] (m' ∷ ms') left' c c' h h' e = absurd (cc)
 one_run low [] (b ∷ left) (m' ∷ ms') left' c c' h h' e = let s : b ≡ m' = cc in absurd (h (omega (arith, s, c'.0)) (omega (arith, s, c'.1)))
-one_run low (m ∷ ms) left [] [] c c' h h' e = let z : ◌≡◌ {A = ℕ} 0 1 = cc in absurd (omega arith)
+one_run low (m ∷ ms) left [] [] c c' h h' e = absurd (cc)
 one_run low (m ∷ ms) left [] (b ∷ left') c c' h h' e = let s : m ≡ b = cc in absurd (h' (omega (arith, s, c.0)) (omega (arith, s, c.1)))
 one_run low (m ∷ ms) left (m' ∷ ms') left' c c' h h' e =
     let s : m ≡ m' = cc in
@@ -58,7 +58,7 @@ not_both : (t t' : ℕ) (a : List ℕ) → t < most_rows → t' < most_rows → 
 not_both t t' a h h' e =
     let d = one_cut 44 (decimal t) (44 ∷ a) (decimal t') [] (decimal_without 44 t (omega arith) (omega arith)) (decimal_without 44 t' (omega arith) (omega arith)) refl tt (e ∙ sym (append-nil (decimal t'))) in
     let r : 44 ∷ a ≡ [] = append_cancel_left (decimal t) (44 ∷ a) [] (e ∙ sym d ∙ sym (append-nil (decimal t))) in
-    let z : ◌≡◌ {A = ℕ} 0 1 = cc in omega arith
+    cc
 
 front_is : (t : ℕ) (ts left : List ℕ) → comma_ended (t ∷ ts) ++ left ≡ decimal t ++ 44 ∷ (comma_ended ts ++ left)
 front_is t ts left = append_assoc (with_comma t) (comma_ended ts) left ∙ append_assoc (decimal t) (44 ∷ []) (comma_ended ts ++ left)

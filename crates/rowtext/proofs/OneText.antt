@@ -37,8 +37,8 @@ text_is : (l : Line) (ls : List Line) (left : List ℕ) → text_of (l ∷ ls) +
 text_is l ls left = append_assoc (with_newline l) (text_of ls) left ∙ append_assoc (line_text l) (10 ∷ []) (text_of ls ++ left)
 
 not_empty : (a b : List ℕ) → [] ≡ a ++ 10 ∷ b → ⊥
-not_empty [] b e = let z : ◌≡◌ {A = ℕ} 0 1 = cc in omega arith
-not_empty (x ∷ a) b e = let z : ◌≡◌ {A = ℕ} 0 1 = cc in omega arith
+not_empty [] b e = cc
+not_empty (x ∷ a) b e = cc
 
 one_text : (ls ls' : List Line) → AllByRecursion WellFormed ls → AllByRecursion WellFormed ls' → text_of ls ++ [] ≡ text_of ls' ++ [] → ls ≡ ls'
 one_text [] [] f f' e = refl
@@ -148,7 +148,7 @@ whole_only text ls e w (inr a) =
     let same = one_text ls b.lines w.formed b.formed (at_end text ls w.whole ∙ sym (at_end text b.lines b.whole)) in
     let none : text_beyond (length ls) 0 ls ≡ None = below_none (length ls) 0 ls w.below in
     let clash : None ≡ Some b.place = sym none ∙ ap (λ k. text_beyond (length k) 0 k) same ∙ b.beyond in
-    let z : ◌≡◌ {A = ℕ} 0 1 = cc in omega arith)
+    cc)
     a.1
 
 pub one_answer : (text : List ℕ) → OneAnswer text

@@ -48,6 +48,7 @@ impl RowFault {
     }
 }
 
+// Written out, here and below: a clause names the error that `?` makes by it.
 impl From<AllocError> for RowFault {
     ghost from_gives = { λ _ r. r ≡ Memory };
 

@@ -7,16 +7,14 @@ use crate::fault::RowFault;
 use crate::reader::read_row;
 use crate::row::{MOST_ROWS, Row};
 use std::alloc::Global;
-use text::pieces::{count_lines, piece_end};
+use text::lines::Lines;
+use text::pieces::count_lines;
 
 // Is the text ended by byte 10, with 1 to 64 lines?
 fn has_lines(text: &[u8]) -> bool
     ensures { result ≡ has_lines text.now }
 {
-    if text.len() == 0 {
-        return false;
-    }
-    text[text.len() - 1] == b'\n' && count_lines(text) <= MOST_ROWS
+    text.last() == Some(&b'\n') && count_lines(text) <= MOST_ROWS
 }
 
 // The rows that the text describes, or its first fault.
@@ -29,13 +27,10 @@ pub fn read_rows(heap: Global, text: &[u8]) -> Result<Vec<Row>, RowFault>
     let count = count_lines(text);
     let mut rows = Vec::new(heap);
     let mut beyond = None;
-    let mut at = 0;
-    while at < text.len() {
-        let end = piece_end(text, at, b'\n');
-        let (row, late) = read_row(heap, &text[0..end], at, count)?;
+    for line in Lines::of(text) {
+        let (row, late) = read_row(heap, &text[..line.end], line.start, count)?;
         rows.push(row)?;
         beyond = beyond.or(late);
-        at = end + 1;
     }
     match beyond {
         Some(place) => Err(RowFault::Beyond(place)),

@@ -8,7 +8,8 @@ use std::alloc::Global;
 use text::figures::number;
 use text::pieces::piece_end;
 
-// The text up to a line's end, and how far it is read: places are those of the whole text.
+// The text up to a line's end, and how far it is read: places are those of the whole text, and the
+// steps count `at` themselves, since a fault tells it.
 #[derive(Drop)]
 struct Reader<'a> {
     text: &'a [u8],
@@ -20,11 +21,7 @@ impl Reader<'_> {
     fn peek(&self) -> Option<u8>
         ensures { Peeked self.now.text.now self.now.at result }
     {
-        if self.at < self.text.len() {
-            Some(self.text[self.at])
-        } else {
-            None
-        }
+        self.text.get(self.at).copied()
     }
 
     fn sign(&mut self) -> Result<bool, RowFault>
@@ -119,7 +116,7 @@ impl Reader<'_> {
 fn beyond_at(t: u16, count: usize, at: usize) -> Option<usize>
     ensures { result ≡ (if nat_le count t then Some at else None) }
 {
-    if t as usize >= count { Some(at) } else { None }
+    (usize::from(t) >= count).then_some(at)
 }
 
 // The line that ends with `text`, from `at` on.

@@ -1,7 +1,9 @@
 -- Texts cut at a delimiter: a piece is cut in one way, and what is left begins where the piece ended.
-use Rattle.std.proofs.Common.{◌≡◌, ℕ, suc, ◌+◌, ◌-◌, ◌<◌, ◌≤◌, List, [], ◌∷◌, ◌++◌, length, get_or, take, drop, decimal, sym, refl, ap, ◌∙◌, subst, ⊎_elim, arith}
+use Rattle.std.proofs.Common.{◌≡◌, ℕ, suc, ◌+◌, ◌-◌, ◌<◌, ◌≤◌, List, [], ◌∷◌, ◌++◌, length, get_or, take, drop, decimal, sym, refl, ap, ◌∙◌, subst, Some, None, Option, MatchOption, unwrap_or, ⊎_elim, arith}
 use Rattle.std.proofs.lemmas.Fmt.{digits_decimal}
 use Rattle.std.proofs.lemmas.List.{drop_more, drop_all, drop-drop, take-append-drop, length-take-le, length-drop, get_or-take, get_or-drop, length-append, append_cancel_left}
+use Rattle.std.specs.List.{AllWithin, HoldsAt}
+use Rattle.std.specs.Prelude.{◌≢◌}
 use Rattle.std.proofs.str.Laws.{order}
 use Rattle.text.proofs.Digits.{Figures, own}
 use Rattle.text.specs.Pieces.{PieceEnd, EndsHere, Without}
@@ -25,9 +27,9 @@ decimal_without d n h small = figures_without d (decimal n) h (digits_decimal ow
 -- a list is cut at its first delimiter in one way
 pub one_cut : (d : ℕ) (xs ys xs' ys' : List ℕ) → Without d xs → Without d xs' → EndsHere d ys → EndsHere d ys' → xs ++ ys ≡ xs' ++ ys' → xs ≡ xs'
 one_cut d [] ys [] ys' f f' o o' e = refl
-one_cut d [] [] (x' ∷ xs') ys' f f' o o' e = let z : ◌≡◌ {A = ℕ} 0 1 = cc in absurd (omega arith)
+one_cut d [] [] (x' ∷ xs') ys' f f' o o' e = absurd (cc)
 one_cut d [] (y ∷ ys) (x' ∷ xs') ys' f f' o o' e = let s : y ≡ x' = cc in absurd (f'.0 (sym s ∙ o))
-one_cut d (x ∷ xs) ys [] [] f f' o o' e = let z : ◌≡◌ {A = ℕ} 0 1 = cc in absurd (omega arith)
+one_cut d (x ∷ xs) ys [] [] f f' o o' e = absurd (cc)
 one_cut d (x ∷ xs) ys [] (y' ∷ ys') f f' o o' e = let s : x ≡ y' = cc in absurd (f.0 (s ∙ o'))
 one_cut d (x ∷ xs) ys (x' ∷ xs') ys' f f' o o' e =
     let s : x ≡ x' = cc in
@@ -63,3 +65,18 @@ delimiter_next d text at o h =
 -- how far a reader went whose text has kept its bytes
 pub went_on : (text text' : List ℕ) (at at' : ℕ) (xs : List ℕ) → text' ≡ text → at ≤ length text → at' ≤ length text' → drop at text ≡ xs ++ drop at' text' → at' ≡ at + length xs
 went_on text text' at at' xs same h h' e = omega (arith, length-drop at text, length-drop at' text', ap length same, ap length e ∙ length-append xs (drop at' text'))
+
+-- the first delimiter ahead is where the piece ends, or else the text's end
+pub ends_at_first : (d : ℕ) (text : List ℕ) (at : ℕ) (ahead : Option ℕ) → at ≤ length text → MatchOption ahead (AllWithin (λ b. b ≢ d) (drop at text) 0 (length (drop at text))) (λ n. (n < length (drop at text)) × HoldsAt (λ b. b ≡ d) (drop at text) n × AllWithin (λ b. b ≢ d) (drop at text) 0 n) → PieceEnd d text at (at + unwrap_or ahead (length (drop at text)))
+ends_at_first d text at (Some n) l h = record {
+  onward = omega arith;
+  within = omega (arith, h.0, length-drop at text);
+  free = λ k a b e. let j : at + (k - at) ≡ k = omega arith in h.2 (k - at) 0 (omega arith) (omega arith) (get_or-drop at text (k - at) 0 ∙ ap (λ i. get_or text i 0) j ∙ e);
+  stops = λ _. sym (get_or-drop at text n 0) ∙ h.1 0;
+}
+ends_at_first d text at None l h = record {
+  onward = omega arith;
+  within = omega (arith, length-drop at text);
+  free = λ k a b e. let j : at + (k - at) ≡ k = omega arith in h (k - at) 0 (omega arith) (omega (arith, length-drop at text)) (get_or-drop at text (k - at) 0 ∙ ap (λ i. get_or text i 0) j ∙ e);
+  stops = λ k. absurd (omega (arith, length-drop at text));
+}

@@ -1,5 +1,5 @@
 -- Figures read one by one: what has been read so far, and what that says of the whole piece.
-use Rattle.std.proofs.Common.{◌≡◌, ℕ, zero, suc, ◌+◌, ◌-◌, ◌*◌, ◌<◌, ◌≤◌, List, [], ◌∷◌, length, get_or, drop, decimal, sym, refl, ap, ◌∙◌, subst, arith, rules}
+use Rattle.std.proofs.Common.{◌≡◌, ℕ, zero, suc, ◌+◌, ◌-◌, ◌*◌, ◌<◌, ◌≤◌, List, [], ◌∷◌, length, get_or, drop, decimal, sym, ap, ◌∙◌, subst, arith, rules}
 use Rattle.std.proofs.lemmas.List.{drop_more, drop_all}
 use Rattle.std.proofs.lemmas.Str.Parse.{IsNumeralModel, numerals_by_fold}
 use Rattle.std.proofs.lemmas.Fmt.{digits_decimal, digits_value-decimal, decimal-digits_value, decimal_nonempty, first_decimal, decimal_digit}
@@ -24,9 +24,6 @@ pub record Half (piece : List ℕ) (i n : ℕ) : Type 0 where
   pub reads : read_on n (drop i piece) ≡ read_on 0 piece
   pub to : Figures (drop i piece) → Figures piece
   pub from : Figures piece → Figures (drop i piece)
-
-pub begun : (piece : List ℕ) → Half piece 0 0
-begun piece = record { reads = refl; to = λ f. f; from = λ f. f }
 
 pub half_more : (piece : List ℕ) (i n b : ℕ) → i < length piece → get_or piece i 0 ≡ b → 48 ≤ b → b ≤ 57 → Half piece i n → Half piece (i + 1) (n * 10 + (b - 48))
 half_more piece i n b h e low high so =

@@ -7,18 +7,15 @@ pub fn number(piece: &[u8], top: u32) -> Option<u32>
     requires { (0 < top) × (top ≤ 100000) }
     ensures { FigureBelow top piece.now result }
 {
-    if piece.len() == 0 {
+    if let [] | [b'0', _, ..] = piece {
         return None;
     }
-    if piece.len() > 1 && piece[0] == b'0' {
-        return None;
-    }
-    let mut n: u32 = 0;
+    let mut n = 0;
     for b in piece {
-        match *b {
-            b'0'..=b'9' => n = n * 10 + u32::from(*b - b'0'),
-            _ => return None,
+        if !b.is_ascii_digit() {
+            return None;
         }
+        n = n * 10 + u32::from(*b - b'0');
         if n >= top {
             return None;
         }

@@ -2,4 +2,5 @@
 #![tactic(auto)]
 
 pub mod figures;
+pub mod lines;
 pub mod pieces;

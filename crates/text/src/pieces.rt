@@ -7,22 +7,14 @@ pub fn piece_end(text: &[u8], at: usize, delimiter: u8) -> usize
     requires { at ≤ length text.now }
     ensures { PieceEnd delimiter text.now at result }
 {
-    let mut end = at;
-    while end < text.len() && text[end] != delimiter {
-        end += 1;
-    }
-    end
+    let rest = &text[at..];
+    let ahead = rest.iter().position(|b| *b == delimiter);
+    at + ahead.unwrap_or(rest.len())
 }
 
 // How many lines the text ends by byte 10.
 pub fn count_lines(text: &[u8]) -> usize
     ensures { result ≡ newlines text.now }
 {
-    let mut n: usize = 0;
-    for b in text {
-        if *b == b'\n' {
-            n += 1;
-        }
-    }
-    n
+    text.iter().filter(|b| **b == b'\n').count()
 }

@@ -1,38 +1,48 @@
-use Rattle.std.proofs.Common.{◌≡◌, ◌+◌, ◌-◌, ◌<◌, length, get_or, take, drop, ap, ◌∙◌, arith}
+use Rattle.std.proofs.Common.{◌≤◌, eqb, [], ◌∷◌, length, take, sym, ap, ◌∙◌, arith, drop}
+use Rattle.std.specs.Cmp.Lexicographic.{pointwise}
+use Rattle.std.proofs.lemmas.Bool.{false≢true}
 use Rattle.std.proofs.lemmas.List.{length-take-le}
+use Rattle.std.proofs.lemmas.Slice.{between_to_end}
 use Rattle.channel.specs.Files.{line_front}
-use Rattle.channel.proofs.LastLine.{last_byte, long, at_sign, one_front, figures_there, found}
+use Rattle.channel.proofs.LastLine.{at_first, found, last_there, no_newline, stripped}
 use Rattle.channel.proofs.parts.last_line.Goals as goal
 
-pub returns-then-file-end-ne10 : goal.returns-then-file-end-ne10
-returns-then-file-end-ne10 c = λ body n l. omega (arith, last_byte c.args.file.now body n l)
+pub returns-in_err-lines : goal.returns-in_err-lines
+returns-in_err-lines c = rw c.from_residual.ensures (λ body n last. no_newline c.args.file.now body n c.in_err-lines.ensures.cases last)
 
-pub returns-then-at-end : goal.returns-then-at-end
-returns-then-at-end c = λ body n l. omega (arith, one_front c.args.file.now body n l c.front_of_line-at.result c.front_of_line-at.ensures, long c.args.file.now body n l)
-
-pub returns-then-file-at-ne64 : goal.returns-then-file-at-ne64
-returns-then-file-at-ne64 c = λ body n l.
-    let same = one_front c.args.file.now body n l c.front_of_line-at.result c.front_of_line-at.ensures in
-    omega (arith, ap (λ k. get_or c.args.file.now k 0) same, at_sign c.args.file.now body n l)
-
-pub returns-in-Some : goal.returns-in-Some
-returns-in-Some c =
+pub returns-in_err-figures : goal.returns-in_err-figures
+returns-in_err-figures c =
     let file = c.args.file.now in
+    let lines = c.in_ok-lines.lines.now in
     let at = c.front_of_line-at.result in
-    let told = c.in-Some.ensures in
+    let ends = stripped file lines c.in_ok-lines.ensures.cases.0 c.in_ok-lines.ensures.cases.1 in
+    let left = between_to_end lines at (length lines) (omega arith) in
+    rw c.from_residual-in_err-figures.ensures (λ body n last. false≢true (sym c.in_err-figures.ensures.cases ∙ ap (λ xs. pointwise eqb (take 1 xs) (64 ∷ [])) (left ∙ last_there file lines ends at n body c.front_of_line-at.ensures last)))
+
+pub returns-in_err-offset : goal.returns-in_err-offset
+returns-in_err-offset c =
+    let file = c.args.file.now in
+    let lines = c.in_ok-lines.lines.now in
+    let at = c.front_of_line-at.result in
+    let ends = stripped file lines c.in_ok-lines.ensures.cases.0 c.in_ok-lines.ensures.cases.1 in
+    let left = between_to_end lines at (length lines) (omega arith) in
+    rw c.from_residual-in_err-offset.ensures (λ body n last. c.in_err-offset.ensures n last.figures (c.in_ok-figures.ensures.cases.1 ∙ ap (drop 1) (left ∙ last_there file lines ends at n body c.front_of_line-at.ensures last)))
+
+pub returns : goal.returns
+returns c =
+    let file = c.args.file.now in
+    let lines = c.in_ok-lines.lines.now in
+    let at = c.front_of_line-at.result in
     let f = c.front_of_line-at.ensures in
-    let h : at < length file - 1 = omega (arith, f.within) in
-    let len : length (take at file) ≡ at = length-take-le at file (omega arith) in (
-      omega arith,
+    let told = c.in_ok-offset.ensures in
+    let ends = stripped file lines c.in_ok-lines.ensures.cases.0 c.in_ok-lines.ensures.cases.1 in
+    let left = between_to_end lines at (length lines) (omega arith) in
+    let h : at ≤ length file = omega (arith, f.within, c.in_ok-lines.ensures.cases.2) in
+    let line = sym left ∙ at_first _ c.in_ok-figures.figures.now c.in_ok-figures.ensures.cases.0 c.in_ok-figures.ensures.cases.1 ∙ ap (λ xs. 64 ∷ xs) told.1 in (
+      h,
       record {
-        whole = found file at c.in-Some.offset h (omega arith) (omega arith) told.1;
-        begins = ap (line_front file) len ∙ f.begins;
+        whole = found file lines ends at c.in_ok-offset.offset f.within line;
+        begins = ap (line_front file) (length-take-le at file h) ∙ f.begins;
         figures = told.0;
       },
     )
-
-pub returns-in-None : goal.returns-in-None
-returns-in-None c = λ body n l.
-    let file = c.args.file.now in
-    let same = one_front file body n l c.front_of_line-at.result c.front_of_line-at.ensures in
-    c.in-None.ensures n l.figures (ap (λ k. take (length file - 1 - (k + 1)) (drop (k + 1) file)) same ∙ figures_there file body n l)

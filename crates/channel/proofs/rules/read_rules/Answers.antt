@@ -1,27 +1,25 @@
-use Rattle.std.proofs.Common.{inl, inr, ⊎_elim}
+use Rattle.std.proofs.Common.{Some, ap, ◌∙◌, subst, inl, inr, ⊎_elim}
 use Rattle.std.proofs.lemmas.Result.{err_from_is_err_and}
-use Rattle.channel.proofs.Lined.{all_read, ends_inside, one_more, refused_there}
+use Rattle.channel.proofs.Lined.{one_more, refused_there}
+use Rattle.text.specs.Lines.{NextLine}
 use Rattle.channel.proofs.rules.read_rules.Goals as goal
 
-pub loop-at-preserved : goal.loop-at-preserved
-loop-at-preserved c =
-    let part = c.args.rules.now in
-    let so = c.loop-at.invariant in
-    let s = c.piece_end-end.ensures in
+pub loop-line-preserved : goal.loop-line-preserved
+loop-line-preserved c =
+    let so = c.loop-line.invariant in
+    let is = subst (λ t. NextLine t c.loop-line.line-iterator.at c.next.new.self.at (Some c.in-Some.line)) so.same c.in-Some.ensures.steps.1 in
     let told = c.in_ok-read_line.ensures in
-    one_more part c.loop-at.at c.piece_end-end.result c.loop-at.laid so s (ends_inside part c.loop-at.at c.piece_end-end.result c.requires.closed c.loop-at-test.true s) told.0 told.1 told.2
+    record {
+      can = tt;
+      finite = tt;
+      same = ap (λ r. r.now) c.in-Some.ensures.steps.0 ∙ so.same;
+      read = one_more c.args.rules.now _ _ _ c.in-Some.line so.read is told.0 told.1 told.2;
+    }
 
 pub returns-in_err-read_line : goal.returns-in_err-read_line
 returns-in_err-read_line c =
     let p = err_from_is_err_and c.from_residual.result c.from_residual.ensures.1 in
-    let part = c.args.rules.now in
-    let so = c.loop-at.invariant in
-    let s = c.piece_end-end.ensures in
+    let so = c.loop-line.invariant in
+    let is = subst (λ t. NextLine t c.loop-line.line-iterator.at c.next.new.self.at (Some c.in-Some.line)) so.same c.in-Some.ensures.steps.1 in
     let told = c.in_err-read_line.ensures in
-    let inside = ends_inside part c.loop-at.at c.piece_end-end.result c.requires.closed c.loop-at-test.true s in
-    rw (p.1, p.2) (⊎_elim inl (λ b. inr (refused_there part c.loop-at.at c.piece_end-end.result c.loop-at.laid so s inside c.args.offset _ _ told.0 b)) told.1)
-
-pub returns : goal.returns
-returns c =
-    let so = c.loop-at.invariant in
-    (so.lines, all_read c.args.rules.now c.loop-at.at c.loop-at.laid c.loop-at-test.false so, so.laid_are)
+    rw (p.1, p.2) (⊎_elim inl (λ b. inr (refused_there c.args.rules.now _ _ _ c.in-Some.line so.read is c.args.offset _ _ told.0 b)) told.1)

@@ -1,12 +1,11 @@
-use Rattle.std.proofs.Common.{◌≡◌, ◌+◌, ◌-◌, ◌≤◌, ◌++◌, length, drop, vec_items}
-use Rattle.std.specs.List.{AllByRecursion}
-use Rattle.rowtext.specs.Faults.{text_beyond}
-use Rattle.rowtext.specs.Format.{WellFormed, lines_of, text_of}
-use Rattle.text.specs.Pieces.{newlines}
+use Rattle.std.proofs.Common.{◌≡◌, vec_items}
+use Rattle.rowtext.proofs.TextForms.{ReadSoFar}
 use Rattle.rowtext.proofs.lines.read_rows.Given as goal
 
-abbrev pub invariant-loop-at : goal.invariant-loop-at
-invariant-loop-at l = (l.at ≤ length l.text) × (l.text ≡ text_of (lines_of (vec_items l.rows)) ++ drop l.at l.text) × AllByRecursion WellFormed (lines_of (vec_items l.rows)) × (newlines l.text ≡ length (vec_items l.rows) + newlines (drop l.at l.text)) × (l.beyond ≡ text_beyond l.count 0 (lines_of (vec_items l.rows)))
-
-abbrev pub decreases-loop-at : goal.decreases-loop-at
-decreases-loop-at l = length l.text - l.at
+abbrev pub invariant-loop-line : goal.invariant-loop-line
+invariant-loop-line l = record {
+  can : (goal.iterator-loop-line).can_next l.line-iterator;
+  finite : (goal.iterator-loop-line).is_finite l.line-iterator;
+  same : l.line-iterator.text.now ≡ l.text;
+  read : ReadSoFar l.text l.count l.line-iterator.at (vec_items l.rows) l.beyond;
+}

@@ -1,15 +1,14 @@
-use Rattle.std.proofs.Common.{◌≡◌, length, vec_items, ap, arith}
-use Rattle.rows.proofs.Starting.{start_more, start_all}
+use Rattle.std.proofs.Common.{◌||◌, vec_items, refl, ◌∙◌, rules, tests}
+use Rattle.std.specs.List.{list_any}
+use Rattle.std.proofs.lemmas.Iterator.{YieldsList-from_slice}
+use Rattle.std.proofs.lemmas.Iterator.Search.{any_from_yields_List}
+use Rattle.std.proofs.lemmas.List.Recursion.{same_from_clauses}
+use Rattle.rows.specs.Rows.{some_start}
+use Rattle.rowtext.specs.Format.{lines_of}
 use Rattle.rows.proofs.row_model.RowModel.has_start.Goals as goal
-
-pub loop-row-preserved : goal.loop-row-preserved
-loop-row-preserved c =
-    let rows = vec_items c.args.self.now.rows in
-    let e : length c.deref-row-items.result.now ≡ length rows = ap length c.deref-row-items.ensures.value in
-    start_more rows c.loop-row.row-index c.row-item.result c.loop-row.any (omega arith) (rw c.deref-row-items.ensures.value at c.row-item.is) c.loop-row.invariant
 
 pub returns : goal.returns
 returns c =
     let rows = vec_items c.args.self.now.rows in
-    let e : length c.deref-row-items.result.now ≡ length rows = ap length c.deref-row-items.ensures.value in
-    start_all rows c.loop-row.row-index c.loop-row.any (omega arith) c.loop-row.invariant
+    let told = any_from_yields_List (λ r. r.start) _ _ c.any.result c.any.ensures.ran (YieldsList-from_slice rows (c.iter.ensures.rest ∙ c.deref.ensures.value)) (λ x b q k. search (rules, tests)) in
+    told ∙ same_from_clauses (list_any (λ r. r.start)) (λ rs. some_start (lines_of rs)) (λ r b. r.start || b) refl (λ _ _. refl) (λ _ _. refl) rows

@@ -20,10 +20,10 @@ loop-b-preserved c =
       omega (arith, inv.4, ap length p ∙ length_push ms b),
     )
 
-pub returns-in_default-b : goal.returns-in_default-b
-returns-in_default-b c =
+pub returns-in_default-b-clause-took : goal.returns-in_default-b-clause-took
+returns-in_default-b-clause-took c =
     let inv = c.loop-b.invariant in
     let b = c.in-Some.b in
     let low = c.loop-b.low in
     let stuck : low ≤ b → b < 123 → ⊥ = λ x y. elim c.in_default-b.branch [ in_default-b-via-then-b-lt97 w ↦ omega (arith, least_next_above 97 123 (vec_items c.loop-b.marks) inv.2, inv.3) | in_default-b-via-in-97-to-122+else-low-b w ↦ omega (arith, w.if-low-b) | in_default-b-via-else-b-lt97+else-b-lt123 w ↦ omega arith ] in
-    record { same = inv.0; took = inr (marks_stuck _ _ _ _ _ (vec_items c.loop-b.marks) low b inv.1 c.in-Some.ensures.1 inv.2 inv.3 inv.4 (λ e. omega arith) stuck) }
+    inr (marks_stuck _ _ _ _ _ (vec_items c.loop-b.marks) low b inv.1 c.in-Some.ensures.1 inv.2 inv.3 inv.4 (λ e. omega arith) stuck)
