@@ -5,7 +5,7 @@ ghost use Rattle.channel.specs.Listing.{Listed, SmallBuffer, header, least_buffe
 ghost use Rattle.channel.specs.Steps.{LineText, Refuses, TextOr};
 
 use crate::fault::FileFault;
-use crate::summary::summary_of;
+use crate::summary::{Summary, summary_of};
 use std::alloc::{AllocError, Global};
 
 // A listing's buffer has at least so many bytes.
@@ -18,9 +18,10 @@ pub struct Refusal {
     pub length: usize,
 }
 
-fn header_line(heap: Global, states: u16, rules: usize) -> Result<String, AllocError>
-    ensures { IfOk result (λ s. LineText (header states rules) (string_bytes s)) }
+fn header_line(heap: Global, summary: Summary) -> Result<String, AllocError>
+    ensures { IfOk result (λ s. LineText (header summary.states summary.rules) (string_bytes s)) }
 {
+    let Summary { states, rules } = summary;
     format!(in heap; "states {states} rules {rules}\n")
 }
 
@@ -48,7 +49,7 @@ fn listing_text(heap: Global, file: &[u8]) -> Result<String, FileFault>
     ensures { TextOr file.now result }
 {
     let summary = summary_of(heap, file)?;
-    Ok(header_line(heap, summary.states, summary.rules)?)
+    Ok(header_line(heap, summary)?)
 }
 
 // Writes the refused line of a fault that has a number.
