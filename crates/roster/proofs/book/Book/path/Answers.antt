@@ -1,25 +1,13 @@
-use Rattle.std.proofs.Common.{◌≤◌, length, vec_items, sym, ◌∙◌, subst}
-use Rattle.guarantee.specs.Looks.{looks_at}
-use Rattle.rule.specs.Tree.{formula}
-use Rattle.roster.proofs.Places.{nth_inside, nth_one}
-use Rattle.roster.proofs.Witnessing.{unrefused, path_written}
+use Rattle.std.proofs.Common.{sym}
+use Rattle.roster.proofs.Witnessing.{one_is_found, path_written}
 use Rattle.roster.proofs.book.Book.path.Goals as goal
-use Rattle.roster.specs.Books.{model_in}
-use Rattle.roster.specs.declared.laid.Laid.{Laid}
 
-pub write_path-requires : goal.write_path-requires
-write_path-requires c =
-    let m = model_in c.args.self.now in
-    let xs = vec_items c.args.self.now.records.items in
-    let w = unrefused m xs c.args.i c.args.bound c.args.limit (length c.args.buffer.now) (sym c.path_refusal.ensures ∙ c.in_default.is) in
-    let Cheap : Laid → Type 0 = λ x. looks_at m (formula x.trees.rule) c.args.bound ≤ c.args.limit in
-    record {
-      laid = (nth_inside xs c.args.i w.laid w.here).0;
-      room = w.roomy;
-      cheap = λ x q. subst Cheap (nth_one xs c.args.i w.laid x w.here q) w.cheap;
-    }
+pub unwrap-requires : goal.unwrap-requires
+unwrap-requires c =
+    one_is_found c.args.self.now c.args.i c.args.bound c.args.limit c.in_ok-laid.laid.now c.args.buffer.now c.write_path.new.buffer c.in_ok-laid.ensures (sym c.in_ok-check_path.ensures)
+    c.write_path.result c.write_path.ensures.none
 
 pub returns : goal.returns
 returns c =
-    path_written c.args.self.now c.args.i c.args.bound c.args.limit c.args.buffer.now c.write_path.new.buffer
-    (sym c.path_refusal.ensures ∙ c.in_default.is) c.write_path.result c.write_path.ensures.shown c.write_path.ensures.none
+    path_written c.args.self.now c.args.i c.args.bound c.args.limit c.in_ok-laid.laid.now c.args.buffer.now c.write_path.new.buffer c.in_ok-laid.ensures (sym c.in_ok-check_path.ensures)
+    c.from.result c.from.ensures (rw c.unwrap.ensures at c.write_path.ensures.shown)
