@@ -1,9 +1,9 @@
 -- A path that is written shows the verdict recorded.
-use Rattle.std.proofs.Common.{◌≡◌, ℕ, suc, ◌+◌, ◌<◌, ◌≤◌, Bool, true, false, leb, ◌⊎◌, List, ◌++◌, length, take, drop, Some, None, Ok, Err, Result, vec_items, Option, sym, refl, ap, ◌∙◌, subst, inl, inr, add-one, arith, take-append-drop}
+use Rattle.std.proofs.Common.{◌≡◌, ℕ, suc, ◌+◌, ◌<◌, ◌≤◌, true, leb, ◌⊎◌, List, ◌++◌, length, take, drop, Some, None, Ok, Err, Result, vec_items, Option, sym, refl, ap, ◌∙◌, subst, inl, inr, add-one, arith, take-append-drop}
 use mathlib.Core.Bool.{false≢true}
 use mathlib.Core.HLevel.{⊥_prop}
 use mathlib.Core.Logic.{∥∥₁_elim, ∥∥₁_map}
-use Rattle.std.proofs.lemmas.Bool.{leb-true, cases_lt}
+use Rattle.std.proofs.lemmas.Bool.{cases_lt}
 use Rattle.std.specs.List.{slice_get}
 use Rattle.std.specs.Option.{option_map}
 use Rattle.std.specs.Result.{IsOk, OnErr}
@@ -11,10 +11,8 @@ use Rattle.std.proofs.lemmas.Option.{slice_get-map}
 use Rattle.model.specs.Meaning.{Meaning, Starts}
 use Rattle.ctl.proofs.Listed.{by_lists}
 use Rattle.ctl.proofs.Tests.{decides_any, decides_yes}
-use Rattle.ctl.specs.Cost.{nodes_cost}
 use Rattle.ctl.specs.Formula.{Formula, PathPart, constant, literal, join, path, negation, negation_part}
 use Rattle.ctl.specs.KPath.{Witness}
-use Rattle.ctl.specs.States.{states_that_count}
 use Rattle.ctl.specs.Truth.{upto, True}
 use Rattle.ctl.specs.declared.Quantifier.TheVariants.{All, Exists}
 use Rattle.ctl.specs.declared.Verdict.{Verdict}
@@ -25,12 +23,11 @@ use Rattle.guarantee.proofs.Listing.{none_some}
 use Rattle.guarantee.proofs.Opening.{test_passed}
 use Rattle.guarantee.proofs.Showing.{a_path_is_there}
 use Rattle.guarantee.specs.Limits.{most_bound}
-use Rattle.guarantee.specs.Looks.{looks_at}
 use Rattle.guarantee.specs.Records.{found_by}
 use Rattle.guarantee.specs.States.{opened, Entry, root_shows, witness_fault, entry_path_fault, Lowest, Shows, ShowsFound, EntryShows, ShowsRecorded, WritesBy, Writes}
 use Rattle.guarantee.specs.declared.fault.RosterFault.{RosterFault}
 use Rattle.roster.specs.Books.{model_in, laid_in}
-use Rattle.roster.specs.Entries.{entry_of, entries_of}
+use Rattle.roster.specs.Entries.{entry_of}
 use Rattle.roster.specs.Showing.{StartShown, showing, RootShown, NoRootShown}
 use Rattle.roster.specs.declared.book.Book.{Book}
 use Rattle.roster.specs.declared.laid.Laid.{Laid}

@@ -39,6 +39,7 @@ fn read_trees(heap: Global, text: &[u8]) -> Result<Trees, RosterFault>
 
 impl Book {
     // Lays a rule with an empty record, and answers its number.
+    #[tactic(auto, using(crate::proofs::Laying::lay_refused, crate::proofs::Laying::lay_taken))]
     pub(crate) fn lay(&mut self, heap: Global, text: &[u8]) -> Result<usize, RosterFault>
         ensures { LaysOrWantsMemory (opened (model_in self.old) (laid_in self.old)) text.now result (opened (model_in self.new) (laid_in self.new)) }
     {

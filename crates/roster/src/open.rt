@@ -18,6 +18,7 @@ use table::asked::keep;
 use table::kept::Table;
 
 // Is some state a start?
+#[tactic(auto, using(crate::proofs::Beginning::start_anywhere))]
 fn some_start(table: &Table) -> bool
     ensures { result ≡ any_below (Starts (kept table.now)) table.now.count }
 {
@@ -51,6 +52,7 @@ impl Roster {
     }
 
     // Asks the model about every state and keeps the answers. No memory is wanted yet.
+    #[tactic(auto, using(crate::proofs::Beginning::open_sized, crate::proofs::Beginning::open_startless, crate::proofs::Beginning::open_begins))]
     pub(crate) fn open<M: TotalModel>(&mut self, heap: Global, model: &M) -> Result<(), RosterFault>
         ensures { Opens (state_of self.old) (M.Model.meaning model.now) result (state_of self.new) }
     {

@@ -116,6 +116,7 @@ fn is_start(table: &Table, s: usize) -> bool
 }
 
 // Writes a witness for the part from the lowest start that has one; if none has, it touches nothing.
+#[tactic(auto, using(crate::proofs::Showings::shown_here, crate::proofs::Showings::no_start_no_path, crate::proofs::Showings::no_witness_no_path, crate::proofs::Showings::no_path_anywhere))]
 fn show(table: &Table, part: &PathPart, k: u16, limit: u32, out: &mut [u8]) -> Result<(), NoPath>
     requires room { k < length out.old }
     requires cheap { parts_cost (kept table.now) (states_that_count (kept table.now)) (part_formula part.now) k ≤ limit }
@@ -179,6 +180,7 @@ impl Laid {
 
 impl Book {
     // Writes a path that shows the verdict on rule i, and answers how many states it has.
+    #[tactic(auto, using(crate::proofs::Witnessing::one_is_found, crate::proofs::Witnessing::path_written))]
     pub(crate) fn path(
         &self,
         i: usize,
