@@ -103,7 +103,7 @@ impl Roster {
 
 // No start has a path to show.
 #[derive(Clone, Copy, Debug)]
-pub(crate) struct NoPath;
+struct NoPath;
 
 // Is the state a start? A table tells of a set only whether it has a start in it.
 fn is_start(table: &Table, s: usize) -> bool
@@ -125,26 +125,13 @@ fn show(table: &Table, part: &PathPart, k: u16, limit: u32, out: &mut [u8]) -> R
     ensures none { OnErr result (NoneShown (kept table.now) (part_formula part.now) k) }
 {
     let counted = table.counted();
+    // A loop, since nothing is known of a lent buffer that a closure writes into.
     for s in 0..table.count() {
         if is_start(table, s) && witness(table, counted, part, k, limit, s, out) {
             return Ok(());
         }
     }
     Err(NoPath)
-}
-
-// So for the path part under the E at the root of a tree; without E there it touches nothing.
-fn show_root(table: &Table, tree: &Rule, k: u16, limit: u32, out: &mut [u8]) -> Result<(), NoPath>
-    requires room { k < length out.old }
-    requires cheap { nodes_cost (kept table.now) (states_that_count (kept table.now)) (formula tree.now) k ≤ limit }
-    ensures shown { IfOk result (λ _. RootShown (kept table.now) (formula tree.now) k out.old out.new) }
-    ensures untouched { OnErr result (out.new ≡ out.old) }
-    ensures none { OnErr result (NoRootShown (kept table.now) (formula tree.now) k) }
-{
-    match tree {
-        Rule::Path(Quantifier::Exists, part) => show(table, part, k, limit, out),
-        _ => Err(NoPath),
-    }
 }
 
 impl Trees {
@@ -161,7 +148,7 @@ impl Trees {
 }
 
 impl Laid {
-    // Writes a path that shows the verdict on the rule, if there is one.
+    // Writes a path that shows the verdict on the rule; if there is none, it touches nothing.
     fn write_path(
         &self,
         table: &Table,
@@ -172,9 +159,13 @@ impl Laid {
         requires room { bound < length buffer.old }
         requires cheap { looks_at (kept table.now) (formula self.now.trees.rule) bound ≤ limit }
         ensures shown { IfOk result (λ _. RootShown (kept table.now) (showing (formula self.now.trees.rule)) bound buffer.old buffer.new) }
+        ensures untouched { OnErr result (buffer.new ≡ buffer.old) }
         ensures none { OnErr result (NoRootShown (kept table.now) (showing (formula self.now.trees.rule)) bound) }
     {
-        show_root(table, self.trees.showing(), bound, limit, buffer)
+        let Rule::Path(Quantifier::Exists, part) = self.trees.showing() else {
+            return Err(NoPath);
+        };
+        show(table, part, bound, limit, buffer)
     }
 }
 
@@ -192,6 +183,7 @@ impl Book {
     {
         let laid = self.records.get(i)?;
         laid.check_path(&self.table, bound, limit, buffer.len())?;
+        // Where no path is refused there is one.
         laid.write_path(&self.table, bound, limit, buffer).unwrap();
         Ok(usize::from(bound) + 1)
     }
