@@ -1,13 +1,13 @@
 // A roster opens on a model.
 ghost use Rattle.std.specs.Prelude.{◌≡◌, None, Some, MatchResult};
+ghost use Rattle.std.specs.Borrow.{sem};
 ghost use Rattle.ctl.specs.Decision.{any_below};
 ghost use Rattle.model.specs.Meaning.{Starts};
 ghost use Rattle.table.specs.Kept.{kept};
-ghost use Rattle.roster.specs.Books.{state_of};
-ghost use Rattle.roster.specs.Opens.{Opens};
-ghost use Rattle.std.specs.Borrow.{sem};
-ghost use Rattle.roster.specs.Lending.{LendsBook};
 ghost use Rattle.guarantee.specs.declared.fault.RosterFault.TheVariants.{Blank};
+ghost use Rattle.roster.specs.Books.{state_of};
+ghost use Rattle.roster.specs.Lending.{LendsBook};
+ghost use Rattle.roster.specs.Opens.{Opens};
 
 use crate::book::{Book, Roster};
 use crate::laid::Records;
@@ -33,14 +33,14 @@ impl Roster {
         Roster { book: None }
     }
 
-    // The book of a roster that is open.
+    // The book of an open roster.
     pub(crate) fn opened(&self) -> Result<&Book, RosterFault>
         ensures { MatchResult result (λ b. self.now.book ≡ Some b.now) (λ e. (e ≡ Blank) × (self.now.book ≡ None)) }
     {
         self.book.as_ref().ok_or(RosterFault::Blank)
     }
 
-    // The same, to be changed.
+    // The same, to be changed; what is lent is followed through a `match`, and not through `ok_or`.
     pub(crate) fn opened_mut(&mut self) -> Result<&mut Book, RosterFault>
         ensures* writes_back { sem 𝓛 (LendsBook self.entry result) }
         ensures value { MatchResult result (λ b. self.old.book ≡ Some b.now) (λ e. (e ≡ Blank) × (self.old.book ≡ None)) }

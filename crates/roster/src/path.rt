@@ -1,8 +1,8 @@
 // A path that shows the verdict recorded of a rule, or why none is written.
-ghost use Rattle.std.specs.Prelude.{◌≡◌, ℕ, ◌<◌, ◌≤◌, length, Some, IfOk, OnErr};
+ghost use Rattle.std.specs.Prelude.{◌≡◌, ◌<◌, ◌≤◌, length, Some, IfOk, OnErr};
 ghost use Rattle.std.specs.List.{slice_get};
 ghost use Rattle.std.specs.Result.{result_err};
-ghost use Rattle.ctl.specs.Cost.{nodes_cost, parts_cost};
+ghost use Rattle.ctl.specs.Cost.{parts_cost};
 ghost use Rattle.ctl.specs.States.{states_that_count};
 ghost use Rattle.model.specs.Meaning.{Starts};
 ghost use Rattle.table.specs.Kept.{kept};

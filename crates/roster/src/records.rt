@@ -1,5 +1,5 @@
 // The table of records: how a rule is added, and how one record is read and changed.
-ghost use Rattle.std.specs.Prelude.{◌≡◌, ℕ, ◌<◌, [], ◌∷◌, ◌++◌, length, Some, None, MatchResult, slice_index_or, slice_set};
+ghost use Rattle.std.specs.Prelude.{◌≡◌, ◌<◌, [], ◌∷◌, ◌++◌, length, Some, None, MatchResult, slice_index_or, slice_set};
 ghost use Rattle.std.specs.List.{slice_get};
 ghost use Rattle.guarantee.specs.declared.fault.RosterFault.TheVariants.{NotLaid};
 ghost use Rattle.guarantee.specs.Records.{noted};
