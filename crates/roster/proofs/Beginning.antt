@@ -1,5 +1,6 @@
 -- What a model must be for a roster to open on it, and what is refused.
 use Rattle.std.proofs.Common.{◌≡◌, Bool, true, false, cond, leb, List, [], Some, None, Ok, Err, Option, sym, refl, ap, ◌∙◌, subst, inl, inr, arith}
+use Rattle.std.proofs.lemmas.Option.{none-some}
 use mathlib.Core.Bool.{false≢true}
 use Rattle.std.proofs.lemmas.Bool.{le-leb, lt-leb}
 use Rattle.model.specs.Meaning.{Meaning, Starts, Total, guarded}
@@ -10,7 +11,6 @@ use Rattle.sets.specs.declared.set.StateSet.{StateSet}
 use Rattle.table.specs.Kept.{kept, Shows, Unkept}
 use Rattle.table.specs.declared.kept.Table.{Table}
 use Rattle.guarantee.proofs.Guarding.{guarded_is_alike}
-use Rattle.guarantee.proofs.Listing.{none_some}
 use Rattle.guarantee.specs.Limits.{most_states}
 use Rattle.guarantee.specs.States.{State, blank, opened, Entry, model_fault, just_opened}
 use Rattle.guarantee.specs.declared.fault.RosterFault.{RosterFault}
@@ -55,7 +55,7 @@ by_fault m f e = rw e (refl, refl)
 
 pub open_sized : (o : Option Book) (m : Meaning) → o ≡ None → Total m → Unkept m → Opens (book_state o) m (Err Size) (book_state o)
 open_sized None m e law u = by_fault m Size (unkept_is_size m law u)
-open_sized (Some x) m e law u = absurd (none_some (sym e))
+open_sized (Some x) m e law u = absurd (none-some _ (sym e))
 
 module _ (o : Option Book) (m : Meaning) (t : Table) (b : o ≡ None) (e : kept t ≡ guarded m) where
   pub open_startless : any_below (Starts (kept t)) t.count ≡ false → Opens (book_state o) m (Err NoStart) (book_state o)

@@ -7,7 +7,7 @@ use Rattle.std.proofs.lemmas.Bool.{cases_lt}
 use Rattle.std.specs.List.{slice_get}
 use Rattle.std.specs.Option.{option_map}
 use Rattle.std.specs.Result.{IsOk, OnErr}
-use Rattle.std.proofs.lemmas.Option.{slice_get-map}
+use Rattle.std.proofs.lemmas.Option.{slice_get-map, none-some}
 use Rattle.model.specs.Meaning.{Meaning, Starts}
 use Rattle.ctl.proofs.Listed.{by_lists}
 use Rattle.ctl.proofs.Tests.{decides_any, decides_yes}
@@ -19,7 +19,6 @@ use Rattle.ctl.specs.declared.Verdict.{Verdict}
 use Rattle.ctl.specs.declared.Verdict.TheVariants.{Holds, Fails, Undecided}
 use Rattle.rule.specs.Tree.{formula}
 use Rattle.table.proofs.Answering.{kept_total}
-use Rattle.guarantee.proofs.Listing.{none_some}
 use Rattle.guarantee.proofs.Opening.{test_passed}
 use Rattle.guarantee.proofs.Showing.{a_path_is_there}
 use Rattle.guarantee.specs.Limits.{most_bound}
@@ -93,7 +92,7 @@ unrefused m x k limit room e = go (found_by x.said.found k) refl (test_passed (l
   where
     go : (o : Option Verdict) → found_by x.said.found k ≡ o → witness_fault m x.formula k limit room o ≡ None
         → (v : Verdict) × (found_by x.said.found k ≡ Some v) × (root_shows x.formula v ≡ true)
-    go None found h = absurd (none_some (sym h))
+    go None found h = absurd (none-some _ (sym h))
     go (Some v) found h = (v, found, (test_passed (root_shows x.formula v) _ _ h).0)
 
 module _ (b : Book) (i k limit : ℕ) (x : Laid) (before after : List ℕ) (here : slice_get (vec_items b.records.items) i ≡ Some x)
