@@ -17,6 +17,7 @@ pub const HIGHEST: u16 = 255;
 
 impl Laid {
     // The verdict on the rule at a bound by evaluation; refused where it costs more looks than the limit.
+    // Table, bound and limit stay three parameters: `judge` and `witness` take them one by one.
     #[tactic(auto, using(crate::proofs::Negating::negates))]
     pub(crate) fn evaluate(
         &self,
