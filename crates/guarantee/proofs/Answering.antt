@@ -1,5 +1,6 @@
 -- Every text is read in one way, every call has an answer, and but for the states of a path only one.
 use Rattle.std.proofs.Common.{◌≡◌, ℕ, suc, ◌≤◌, true, ltb, leb, List, [], ◌∷◌, ◌++◌, length, drop, Some, None, Ok, Err, Option, Result, sym, refl, ap, ◌∙◌, subst}
+use Rattle.std.proofs.lemmas.Option.{none-some}
 use mathlib.Core.Logic.Dec
 use native.Mathlib.Decide.{dec_le}
 use Rattle.std.proofs.lemmas.Bool.Decides.{Decides-ltb}
@@ -23,7 +24,6 @@ use Rattle.guarantee.specs.Rights.{AllRight}
 use Rattle.guarantee.specs.Runs.{Step, lays, tries, settles, stands, writes, Run, none, next}
 use Rattle.guarantee.specs.States.{State, blank, opened, Entry, open_fault, just_opened, lay_fault, ReadsAs, lay_answer, lay_after, LaysBy, Lays, try_answer, try_after, settle_answer, settle_after, standing_answer, path_fault, ShowsRecorded, WritesBy, Writes}
 use Rattle.guarantee.specs.declared.fault.RosterFault.{RosterFault}
-use Rattle.guarantee.proofs.Listing.{none_some}
 use Rattle.guarantee.proofs.Opening.{test_passed, guarded_is_total, opened_is_small}
 use Rattle.guarantee.proofs.Showing.{a_path_is_there}
 use Rattle.guarantee.proofs.Stepping.{Stepped, steps}
@@ -90,7 +90,7 @@ start_there m h =
 pub every_list_is_answered : EveryListIsAnswered
 every_list_is_answered m law h calls =
     let s = start_there m h in
-    all_answered (guarded m) (guarded_is_total m law) (opened_is_small m h) s.0 s.1 [] (λ i e q. absurd (none_some q)) (just_opened m) refl calls
+    all_answered (guarded m) (guarded_is_total m law) (opened_is_small m h) s.0 s.1 [] (λ i e q. absurd (none-some _ q)) (just_opened m) refl calls
 
 -- ---- and only one
 

@@ -1,6 +1,8 @@
 -- A model and the model of its answers: rules mean the same on both and cost the same, so the guarantee about one is about the other.
-use Rattle.std.proofs.Common.{◌≡◌, ℕ, zero, suc, ◌+◌, Bool, true, false, not, ◌&&◌, ltb, leb, List, [], ◌∷◌, map, Ok, Err, Decides, Result, sym, refl, ap, ◌∙◌, ap₂, inl, inr}
+use Rattle.std.proofs.Common.{◌≡◌, ℕ, zero, suc, ◌+◌, Bool, true, false, not, ◌&&◌, ltb, leb, List, [], ◌∷◌, map, Ok, Err, Result, sym, refl, ap, ◌∙◌, ap₂, inl, inr}
 use mathlib.Core.Path.{fun_ext}
+use Rattle.std.proofs.Math.Bool.{and_self_left}
+use Rattle.std.proofs.lemmas.Bool.Decides.{same_from_decides}
 use Rattle.model.specs.Claims.{AnswerAlike}
 use Rattle.model.specs.Meaning.{Meaning, letter, guarded}
 use Rattle.ctl.proofs.Deciding.{decides}
@@ -27,18 +29,14 @@ use Rattle.guarantee.proofs.Running.{each_so}
 
 -- ---- guarding twice is guarding once
 
-once : (a b : Bool) → (a && (a && b)) ≡ (a && b)
-once true b = refl
-once false b = refl
-
 both_once : (a b c : Bool) → (a && (b && (a && (b && c)))) ≡ (a && (b && c))
-both_once true b c = once b c
+both_once true b c = and_self_left b c
 both_once false b c = refl
 
 pub guarded_is_alike : (m : Meaning) → AnswerAlike (guarded m) m
 guarded_is_alike m = record {
   count = refl;
-  start = λ s. once (ltb s m.count) (m.start s);
+  start = λ s. and_self_left (ltb s m.count) (m.start s);
   moves = λ s t. both_once (ltb s m.count) (ltb t m.count) (m.moves s t);
   mark = λ s c. both_once (ltb s m.count) (letter c) (m.mark s c);
 }
@@ -108,16 +106,13 @@ deciding_alike m n a f k v d =
 
 -- ---- cost
 
-same_test : (x y : Bool) (P Q : Type 0) → Decides x P → Decides y Q → (P → Q) → (Q → P) → x ≡ y
-same_test true y P Q d e to from = sym (e.1 (to (d.0 refl)))
-same_test false true P Q d e to from = d.1 (from (e.0 refl))
-same_test false false P Q d e to from = refl
-
 module _ (m : Meaning) where
   decide_alike : (f : Formula) (k s : ℕ) → decide (guarded m) f k s ≡ decide m f k s
   decide_alike f k s =
-      same_test (decide (guarded m) f k s) (decide m f k s) (True (guarded m) f (upto k) s) (True m f (upto k) s) (decides (guarded m) f k s) (decides m f k s)
-      (true_alike (guarded m) m (guarded_is_alike m) f (upto k) s) (true_alike m (guarded m) (the_other_way (guarded m) m (guarded_is_alike m)) f (upto k) s)
+      let here = true_alike (guarded m) m (guarded_is_alike m) f (upto k) s in
+      let back = true_alike m (guarded m) (the_other_way (guarded m) m (guarded_is_alike m)) f (upto k) s in
+      let d = decides (guarded m) f k s in
+      same_from_decides (decide (guarded m) f k s) (decide m f k s) ((λ e. here (d.0 e)), (λ t. d.1 (back t))) (decides m f k s)
 
   paths_alike : (N : ℕ → Bool) (k s : ℕ) → simple_paths (guarded m) N k s ≡ simple_paths m N k s
   paths_alike N zero s = refl

@@ -1,5 +1,6 @@
 -- The texts laid in a run and the rules of a roster go together, number by number.
 use Rattle.std.proofs.Common.{◌≡◌, ℕ, zero, suc, ◌+◌, ◌⊎◌, List, [], ◌∷◌, ◌++◌, length, Some, None, Option, sym, refl, ap, ◌∙◌, subst, inl, inr, append_assoc, append-nil, arith}
+use Rattle.std.proofs.lemmas.Option.{same_Some, none-some}
 use mathlib.Core.List.Memᴰ
 use mathlib.Core.List.{Memᴰ}
 use Rattle.std.specs.List.{slice_get}
@@ -8,7 +9,6 @@ use Rattle.rule.proofs.Formulas.{one_formula}
 use Rattle.rule.specs.Grammar.{Means}
 use Rattle.guarantee.specs.Law.{Event, listed, laid_in, RuleUnder}
 use Rattle.guarantee.specs.Tries.{Laid, laid}
-use Rattle.guarantee.proofs.Listing.{some_is, none_some}
 
 -- from number n on: each text has its number, and means its rule
 abbrev pub Kept : ℕ → List Laid → List Formula → Type 0
@@ -42,12 +42,12 @@ kept_on ls fs gs (Some l) h (f, e, n, t) = subst (Kept 0 (ls ++ (l ∷ []))) (sy
 -- the rule at a place was laid under its number
 laid_at : (n : ℕ) (ls : List Laid) (fs : List Formula) → Kept n ls fs → (j : ℕ) (f : Formula) → slice_get fs j ≡ Some f
     → (text : List ℕ) × Memᴰ (record { number = n + j; text = text }) ls × Means text f
-laid_at n [] [] h j f e = absurd (none_some e)
+laid_at n [] [] h j f e = absurd (none-some _ e)
 laid_at n [] (g ∷ fs) h j f e = absurd h
 laid_at n (l ∷ ls) [] h j f e = absurd h
 laid_at n (l ∷ ls) (g ∷ fs) h zero f e =
     let z : n + 0 ≡ l.number = omega (arith, h.0) in
-    (l.text, Memᴰ.head (ap (λ i. record { number = i; text = l.text }) z), subst (Means l.text) (some_is e) h.1)
+    (l.text, Memᴰ.head (ap (λ i. record { number = i; text = l.text }) z), subst (Means l.text) (same_Some _ _ e) h.1)
 laid_at n (l ∷ ls) (g ∷ fs) h (suc j) f e =
     let r = laid_at (suc n) ls fs h.2 j f e in
     let z : suc n + j ≡ n + suc j = omega arith in

@@ -1,5 +1,6 @@
 -- What open's questions give of the model, and what holds of the calls on it.
 use Rattle.std.proofs.Common.{◌≡◌, ◌≤◌, Bool, true, false, cond, ◌&&◌, ltb, leb, Some, None, Ok, Option, sym, refl, ap, ◌∙◌}
+use Rattle.std.proofs.lemmas.Option.{none-some}
 use Rattle.std.proofs.lemmas.Bool.{leb-true}
 use Rattle.model.specs.Meaning.{Meaning, Moves, Total, guarded}
 use Rattle.ctl.proofs.Guards.{both, to_both}
@@ -9,7 +10,6 @@ use Rattle.guarantee.specs.Limits.{most_states}
 use Rattle.guarantee.specs.States.{blank, open_fault, settle_entry}
 use Rattle.guarantee.specs.declared.fault.RosterFault.{RosterFault}
 use Rattle.guarantee.proofs.Guarding.{guarantee_alike}
-use Rattle.guarantee.proofs.Listing.{none_some}
 use Rattle.guarantee.proofs.Running.{every_run_is_guaranteed}
 use Rattle.guarantee.proofs.Settling.{ends_decided, settles_from_0, counts_its_own}
 use Rattle.guarantee.proofs.Stepping.{steps}
@@ -18,7 +18,7 @@ use Rattle.guarantee.proofs.Trying.{formula_at}
 -- where a test says no, there is a refusal; so where there is none, it says yes
 pub test_passed : (b : Bool) (o : Option RosterFault) (e : RosterFault) → cond b o (Some e) ≡ None → (b ≡ true) × (o ≡ None)
 test_passed true o e h = (refl, h)
-test_passed false o e h = absurd (none_some (sym h))
+test_passed false o e h = absurd (none-some _ (sym h))
 
 -- the answers of a total model are a total model
 pub guarded_is_total : (m : Meaning) → Total m → Total (guarded m)

@@ -2,7 +2,7 @@
 use Rattle.std.proofs.Common.{◌≡◌, ℕ, ◌<◌, ◌≤◌, true, List, [], ◌∷◌, ◌++◌, map, Some, Ok, Err, Result, sym, refl, ap, ◌∙◌, subst, ap₂, arith}
 use mathlib.Core.Bool.{false≢true}
 use mathlib.Core.List.Memᴰ
-use mathlib.Core.List.{Memᴰ}
+use mathlib.Core.List.{Memᴰ, nil≢cons as not_empty, head-eq_of_cons-eq as same_head, tail-eq_of_cons-eq as same_tail}
 use Rattle.model.specs.Meaning.{Meaning}
 use Rattle.ctl.specs.Formula.{Formula, literal}
 use Rattle.ctl.specs.States.{decided_from}
@@ -35,15 +35,6 @@ a_settle_climbs : {i limit : ℕ} {a : Settled} {ts : List Try} → StandsFor (s
 a_settle_climbs (settle_climbs c) = c
 
 -- ---- two calls, the first a lay that answers 0
-
-same_head : {X : Type 0} {x y : X} {xs ys : List X} → (x ∷ xs) ≡ (y ∷ ys) → x ≡ y
-same_head e = cc
-
-same_tail : {X : Type 0} {x y : X} {xs ys : List X} → (x ∷ xs) ≡ (y ∷ ys) → xs ≡ ys
-same_tail e = cc
-
-not_empty : {X : Type 0} {x : X} {xs : List X} → ◌≡◌ {A = List X} [] (x ∷ xs) → ⊥
-not_empty e = grind arith
 
 -- what the law says of the second call
 record Second (m : Meaning) (f : Formula) (c : Call) (a : Answer) : Type 0 where

@@ -1,5 +1,6 @@
 -- Every run on an open roster with no rule laid has the guarantee.
 use Rattle.std.proofs.Common.{◌≡◌, ℕ, ◌<◌, ◌≤◌, ◌⊎◌, List, [], ◌∷◌, ◌++◌, map, Some, None, Ok, Err, Option, Result, sym, refl, ap, ◌∙◌, subst, inl, inr, append_assoc, append-nil, arith}
+use Rattle.std.proofs.lemmas.Option.{same_Some, none-some}
 use mathlib.Core.List.Memᴰ
 use mathlib.Core.List.{Memᴰ}
 use native.Mathlib.Decide.{dec_le}
@@ -22,7 +23,6 @@ use Rattle.guarantee.specs.States.{State, opened, Entry}
 use Rattle.guarantee.specs.Tries.{Laid, laid, Try, Told, told}
 use Rattle.guarantee.specs.declared.answer.Tried.{Tried}
 use Rattle.guarantee.specs.declared.fault.RosterFault.{RosterFault}
-use Rattle.guarantee.proofs.Listing.{some_is, none_some}
 use Rattle.guarantee.proofs.Numbering.{Kept, Grown, as_many, kept_on, rule_at, at_the_rule, laid_in_both}
 use Rattle.guarantee.proofs.Stepping.{FairOf, Fair, TrueTold, Stepped, steps}
 use Rattle.guarantee.proofs.Trying.{Judges, formulas}
@@ -149,7 +149,7 @@ module _ (m : Meaning) (law : Total m) (small : m.count ≤ most_states) where
       go (Some g) q a w =
           let u = rule_at d.before d.here.rules d.here.kept t.rule g q in
           let v : RuleUnder events t.rule g = record { text = u.text; answered = d.inside (record { number = t.rule; text = u.text }) u.answered; means = u.means } in
-          let e : g ≡ f = some_is (sym (at_the_rule events rules k t.rule g v) ∙ at_t) in
+          let e : g ≡ f = same_Some _ _ (sym (at_the_rule events rules k t.rule g v) ∙ at_t) in
           said f t.bound t.limit a (subst (λ h. Judges m h t.bound t.limit a) e w)
 
   once : (events : List Event) (rules : List Formula) → Kept 0 (laid_in events) rules → Each (Seen m) [] events → (r : ℕ) (f : Formula) → RuleUnder events r f
@@ -168,7 +168,7 @@ module _ (m : Meaning) (law : Total m) (small : m.count ≤ most_states) where
 
 pub every_run_is_guaranteed : EveryRunIsGuaranteed
 every_run_is_guaranteed m law small calls answers_told s r =
-    let d = along m law small [] [] refl (λ i e q. absurd (none_some q)) tt r in
+    let d = along m law small [] [] refl (λ i e q. absurd (none-some _ q)) tt r in
     record {
       events = d.events;
       calls_are = d.calls_are;

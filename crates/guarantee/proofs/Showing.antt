@@ -1,6 +1,7 @@
 -- Where path is not refused, a path that shows the recorded verdict is there.
-use Rattle.std.proofs.Common.{◌≡◌, ℕ, ◌<◌, Bool, true, false, leb, List, Some, None, Option, sym, refl, ◌∙◌, inl, inr}
-use mathlib.Core.Bool.{false≢true}
+use Rattle.std.proofs.Common.{◌≡◌, ℕ, ◌<◌, true, leb, List, Some, None, Option, sym, refl, inl, inr}
+use Rattle.std.proofs.lemmas.Option.{none-some}
+use mathlib.Core.Bool.{false≢true, Bool-discrete}
 use mathlib.Core.Logic.Dec
 use Rattle.std.specs.List.{slice_get}
 use Rattle.model.specs.Meaning.{Meaning, Starts, Total}
@@ -19,16 +20,8 @@ use Rattle.guarantee.specs.Limits.{most_bound}
 use Rattle.guarantee.specs.Records.{found_by}
 use Rattle.guarantee.specs.Rights.{Right}
 use Rattle.guarantee.specs.States.{Entry, root_shows, witness_fault, entry_path_fault, Lowest, ShownFrom, Shows, ShowsFound, EntryShows}
-use Rattle.guarantee.proofs.Listing.{none_some}
 use Rattle.guarantee.proofs.Recording.{found_is_right}
 use Rattle.guarantee.proofs.Opening.{test_passed}
-
-dec_start : (m : Meaning) (s : ℕ) → Dec (Starts m s ≡ true)
-dec_start m s = go (Starts m s) refl
-  where
-    go : (b : Bool) → Starts m s ≡ b → Dec (Starts m s ≡ true)
-    go true e = yes e
-    go false e = no (λ h. false≢true (sym e ∙ h))
 
 -- the lowest state with P, where some state has it
 lowest_there : (P : ℕ → Type 0) (n s : ℕ) → s < n → P s → ((i : ℕ) → Dec (P i)) → (l : ℕ) × Lowest P l
@@ -48,14 +41,14 @@ module _ (m : Meaning) (law : Total m) (start : ℕ) (starts : Starts m start �
       (w.0, (low.0, low.1, w.1))
 
   shown_holding : (x : PathPart) → VerdictIs m (path Exists x) k Holds → (l : List ℕ) × Shows m (path Exists x) k Holds l
-  shown_holding x v = witness_there (λ s. Starts m s ≡ true) x start (starts_at_a_state m start starts) starts (dec_start m) v
+  shown_holding x v = witness_there (λ s. Starts m s ≡ true) x start (starts_at_a_state m start starts) starts (λ s. Bool-discrete (Starts m s) true) v
 
   shown_failing : (x : PathPart) → VerdictIs m (path All x) k Fails → (l : List ℕ) × Shows m (path All x) k Fails l
   shown_failing x (s, h, t) =
       witness_there (λ s. (Starts m s ≡ true) × True m (negation (path All x)) (upto k) s) (negation_part x) s (starts_at_a_state m s h) (h, t) decided (λ i p. p.1)
     where
       decided : (i : ℕ) → Dec ((Starts m i ≡ true) × True m (negation (path All x)) (upto k) i)
-      decided i = Dec.and (dec_start m i) (dec m (negation (path All x)) k i)
+      decided i = Dec.and (Bool-discrete (Starts m i) true) (dec m (negation (path All x)) k i)
 
   shown : (f : Formula) (v : Verdict) → root_shows f v ≡ true → VerdictIs m f k v → (l : List ℕ) × Shows m f k v l
   shown (constant b) v r h = absurd (false≢true r)
@@ -71,12 +64,12 @@ module _ (m : Meaning) (law : Total m) (start : ℕ) (starts : Starts m start �
   module _ (limit room : ℕ) where
     shown_found : (f : Formula) (o : Option Verdict) → ((v : Verdict) → o ≡ Some v → VerdictIs m f k v) → witness_fault m f k limit room o ≡ None
         → (l : List ℕ) × ShowsFound m f k o l
-    shown_found f None h e = absurd (none_some (sym e))
+    shown_found f None h e = absurd (none-some _ (sym e))
     shown_found f (Some v) h e = shown f v (test_passed (root_shows f v) _ _ e).0 (h v refl)
 
     shown_entry : (o : Option Entry) → ((e : Entry) → o ≡ Some e → Right m e.formula e.said) → entry_path_fault m o k limit room ≡ None
         → (l : List ℕ) × EntryShows m o k l
-    shown_entry None h e = absurd (none_some (sym e))
+    shown_entry None h e = absurd (none-some _ (sym e))
     shown_entry (Some x) h e =
         shown_found x.formula (found_by x.said.found k) (λ v q. found_is_right m law x.formula k x.said v (h x refl) q)
         (test_passed (leb k most_bound) _ _ e).1

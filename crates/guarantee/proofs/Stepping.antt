@@ -1,5 +1,6 @@
 -- One call on an open roster: the records stay right, a rule is laid under the next number, verdicts told are true, tries are fair.
 use Rattle.std.proofs.Common.{◌≡◌, ℕ, ◌≤◌, List, [], ◌∷◌, ◌++◌, Some, None, Ok, Err, Option, Result, sym, refl, ap, ◌∙◌, subst}
+use Rattle.std.proofs.lemmas.Option.{same_Some, none-some}
 use mathlib.Core.List.Memᴰ
 use mathlib.Core.List.{Memᴰ, map-append}
 use lib.ListN.{length-map}
@@ -20,7 +21,6 @@ use Rattle.guarantee.specs.Tries.{both_there, laid, Try, StandsFor, lay_none, tr
 use Rattle.guarantee.specs.declared.answer.Tried.{Tried}
 use Rattle.guarantee.specs.declared.fault.RosterFault.{RosterFault}
 use Rattle.guarantee.specs.declared.record.Found.{Found}
-use Rattle.guarantee.proofs.Listing.{some_is, none_some}
 use Rattle.guarantee.proofs.Numbering.{Grown}
 use Rattle.guarantee.proofs.Settling.{settles_from_0, counts_its_own}
 use Rattle.guarantee.proofs.Trying.{Judges, formulas, try_is_right, added_is_right, entries_after_are_right, try_keeps_formulas, formula_at, no_formula_at}
@@ -53,26 +53,24 @@ module _ (m : Meaning) (law : Total m) (es : List Entry) (h : AllRight m es) whe
   nothing_made t z = absurd (Memᴰ.not-nil z)
 
   nothing_told : (t : Told) → ◌≡◌ {A = Option Told} None (Some t) → TrueTold m (formulas es) t
-  nothing_told t e = absurd (none_some e)
+  nothing_told t e = absurd (none-some _ e)
 
   -- the verdict at a bound, told of rule i
   verdict_told : (i k : ℕ) (f : Formula) (v : Verdict) → slice_get (formulas es) i ≡ Some f → verdict_at m f k ≡ v → (t : Told)
       → ◌≡◌ {A = Option Told} (Some (record { rule = i; verdict = v })) (Some t) → TrueTold m (formulas es) t
   verdict_told i k f v q e t z =
-      subst (TrueTold m (formulas es)) (some_is z) (f, q, judging.means m law f k v ((judging.only_the_computed m f k v).1 (sym e)))
+      subst (TrueTold m (formulas es)) (same_Some _ _ z) (f, q, judging.means m law f k v ((judging.only_the_computed m f k v).1 (sym e)))
+
+  -- a call that lays nothing, makes no try and leaves the roster as it was
+  stays : (c : Call) (a : Answer) (s' : State) → s' ≡ opened m es → laid c a ≡ None → ((t : Told) → told c a ≡ Some t → TrueTold m (formulas es) t)
+      → StandsFor c a [] → Stepped m es c a s'
+  stays c a s' e nothing truth made =
+      record { entries = es; state = e; right = h; grown = rw nothing refl; truth = truth; made = []; stand_for = made; fair = nothing_made }
 
   -- ---- lay
   lay_refused : (text : List ℕ) (e : RosterFault) (a : Result ℕ RosterFault) (s' : State) → a ≡ Err e → s' ≡ opened m es → Stepped m es (lay text) (to_lay a) s'
-  lay_refused text e a s' ea es' = subst (λ a. Stepped m es (lay text) (to_lay a) s') (sym ea) (record {
-    entries = es;
-    state = es';
-    right = h;
-    grown = refl;
-    truth = nothing_told;
-    made = [];
-    stand_for = lay_none;
-    fair = nothing_made;
-  })
+  lay_refused text e a s' ea es' =
+      subst (λ a. Stepped m es (lay text) (to_lay a) s') (sym ea) (stays (lay text) (to_lay (Err e)) s' es' refl nothing_told lay_none)
 
   lay_read : (text : List ℕ) (r : Result Formula RuleFault) → ReadsAs text r → (a : Result ℕ RosterFault) (s' : State)
       → a ≡ lay_answer (opened m es) r → s' ≡ lay_after (opened m es) r → Stepped m es (lay text) (to_lay a) s'
@@ -96,7 +94,7 @@ module _ (m : Meaning) (law : Total m) (es : List Entry) (h : AllRight m es) whe
   answer_told : (i k limit : ℕ) (f : Formula) (a : Result Tried RosterFault) → slice_get (formulas es) i ≡ Some f → Judges m f k limit a
       → (t : Told) → told (try i k limit) (to_try a) ≡ Some t → TrueTold m (formulas es) t
   answer_told i k limit f (Ok x) q j t e = verdict_told i k f x.verdict q j t e
-  answer_told i k limit f (Err x) q j t e = absurd (none_some e)
+  answer_told i k limit f (Err x) q j t e = absurd (none-some _ e)
 
   try_step : (i k limit : ℕ) (o : Option Entry) → slice_get es i ≡ o → (s' : State) → s' ≡ opened m (entries_after es i k o (try_entry m o k limit))
       → Stepped m es (try i k limit) (to_try (try_entry m o k limit)) s'
@@ -127,16 +125,7 @@ module _ (m : Meaning) (law : Total m) (es : List Entry) (h : AllRight m es) whe
   -- ---- settle
   settle_step : m.count ≤ most_states → (i limit : ℕ) (o : Option Entry) → slice_get es i ≡ o → (s' : State) → s' ≡ opened m (settle_entries m es i limit o)
       → Stepped m es (settle i limit) (to_settle (settle_entry m es i limit o)) s'
-  settle_step small i limit None q s' e = record {
-    entries = es;
-    state = e;
-    right = h;
-    grown = refl;
-    truth = nothing_told;
-    made = [];
-    stand_for = settle_refused;
-    fair = nothing_made;
-  }
+  settle_step small i limit None q s' e = stays (settle i limit) (to_settle (settle_entry m es i limit None)) s' e refl nothing_told settle_refused
   settle_step small i limit (Some x) q s' e =
       let f = x.formula in
       let at_i : slice_get (formulas es) i ≡ Some f = formula_at es i x q in
@@ -157,37 +146,20 @@ module _ (m : Meaning) (law : Total m) (es : List Entry) (h : AllRight m es) whe
   -- ---- standing
   record_told : (i : ℕ) (x : Entry) → slice_get es i ≡ Some x → (o : Option Found) → x.said.found ≡ o → (t : Told)
       → both_there (λ i v. record { rule = i; verdict = v }) (Some i) (verdict_recorded o) ≡ Some t → TrueTold m (formulas es) t
-  record_told i x q None w t e = absurd (none_some e)
+  record_told i x q None w t e = absurd (none-some _ e)
   record_told i x q (Some y) w t e = verdict_told i y.bound x.formula y.verdict (formula_at es i x q) ((h i x q).high y w).0 t e
 
   standing_told : (i : ℕ) (o : Option Entry) → slice_get es i ≡ o → (t : Told) → told (standing i) (to_standing (standing_entry o)) ≡ Some t → TrueTold m (formulas es) t
-  standing_told i None q t e = absurd (none_some e)
+  standing_told i None q t e = absurd (none-some _ e)
   standing_told i (Some x) q t e = record_told i x q x.said.found refl t e
 
   standing_step : (i : ℕ) (s' : State) → s' ≡ opened m es → Stepped m es (standing i) (to_standing (standing_entry (slice_get es i))) s'
-  standing_step i s' e = record {
-    entries = es;
-    state = e;
-    right = h;
-    grown = refl;
-    truth = standing_told i (slice_get es i) refl;
-    made = [];
-    stand_for = standing_none;
-    fair = nothing_made;
-  }
+  standing_step i s' e =
+      stays (standing i) (to_standing (standing_entry (slice_get es i))) s' e refl (standing_told i (slice_get es i) refl) standing_none
 
   -- ---- path
   path_step : (i k limit : ℕ) (buffer buffer' : List ℕ) (a : Result ℕ RosterFault) (s' : State) → s' ≡ opened m es → Stepped m es (path i k limit buffer) (to_path a buffer') s'
-  path_step i k limit buffer buffer' a s' e = record {
-    entries = es;
-    state = e;
-    right = h;
-    grown = refl;
-    truth = nothing_told;
-    made = [];
-    stand_for = path_none;
-    fair = nothing_made;
-  }
+  path_step i k limit buffer buffer' a s' e = stays (path i k limit buffer) (to_path a buffer') s' e refl nothing_told path_none
 
 pub steps : (m : Meaning) → Total m → m.count ≤ most_states → (es : List Entry) → AllRight m es → {c : Call} {a : Answer} {s' : State}
     → Step (opened m es) c a s' → Stepped m es c a s'

@@ -1,7 +1,10 @@
 -- One try: its answer is the verdict or want of looks, the records stay right, and the rules stay as they are.
-use Rattle.std.proofs.Common.{◌≡◌, ℕ, zero, suc, ◌<◌, ◌≤◌, Bool, true, false, cond, leb, ◌⊎◌, List, [], ◌∷◌, ◌++◌, map, set, Some, None, Ok, Err, Option, Result, sym, refl, ap, subst, inl, inr, arith}
+use Rattle.std.proofs.Common.{◌≡◌, ℕ, ◌<◌, ◌≤◌, Bool, true, false, cond, leb, ◌⊎◌, List, [], ◌∷◌, ◌++◌, map, set, Some, None, Ok, Err, Option, Result, sym, refl, ap, ◌∙◌, subst, inl, inr, arith}
+use Rattle.std.proofs.lemmas.Option.{same_Some, none-some, slice_get-map, get_or_from_slice_get}
 use Rattle.std.proofs.lemmas.Bool.{leb-false}
+use Rattle.std.proofs.Math.Seq.{map-set_same}
 use Rattle.std.specs.List.{slice_get}
+use Rattle.std.specs.Option.{option_map}
 use Rattle.model.specs.Meaning.{Meaning, Total}
 use Rattle.ctl.specs.Decision.{verdict_at}
 use Rattle.ctl.specs.Formula.{Formula}
@@ -14,7 +17,7 @@ use Rattle.guarantee.specs.States.{Entry, fresh_entry, judged, try_entry, with_n
 use Rattle.guarantee.specs.declared.answer.Tried.{Tried}
 use Rattle.guarantee.specs.declared.fault.RosterFault.{RosterFault}
 use Rattle.guarantee.specs.declared.fault.RosterFault.TheVariants.{Looks, Bound}
-use Rattle.guarantee.proofs.Listing.{some_is, none_some, nth_set, nth_last}
+use Rattle.guarantee.proofs.Listing.{nth_set, nth_last}
 use Rattle.guarantee.proofs.Recording.{no_record_is_right, known_is_right, noted_is_right}
 
 -- what the answer to a try of rule f at bound k may be
@@ -68,9 +71,7 @@ module _ (m : Meaning) (law : Total m) where
   entries_after_are_right es i k limit e a h q j = noted_in_is_right es i k limit e (known_at e.said k) a h q j
 
 set_keeps_formulas : (es : List Entry) (i k : ℕ) (e : Entry) (v : Verdict) → slice_get es i ≡ Some e → formulas (set es i (with_note e k v)) ≡ formulas es
-set_keeps_formulas [] i k e v q = refl
-set_keeps_formulas (x ∷ es) zero k e v q = ap (λ y. y.formula ∷ formulas es) (sym (some_is q))
-set_keeps_formulas (x ∷ es) (suc i) k e v q = ap (λ fs. x.formula ∷ fs) (set_keeps_formulas es i k e v q)
+set_keeps_formulas es i k e v q = map-set_same (λ e. e.formula) es i (with_note e k v) e (ap (λ x. x.formula) (sym (get_or_from_slice_get es i e e q)))
 
 noted_in_keeps_formulas : (es : List Entry) (i k : ℕ) (e : Entry) (o : Option Verdict) (a : Result Tried RosterFault) → slice_get es i ≡ Some e
     → formulas (noted_in es i k e o a) ≡ formulas es
@@ -83,16 +84,14 @@ pub try_keeps_formulas : (es : List Entry) (i k : ℕ) (e : Entry) (a : Result T
 try_keeps_formulas es i k e a q = noted_in_keeps_formulas es i k e (known_at e.said k) a q
 
 pub formula_at : (es : List Entry) (i : ℕ) (e : Entry) → slice_get es i ≡ Some e → slice_get (formulas es) i ≡ Some e.formula
-formula_at [] i e q = absurd (none_some q)
-formula_at (x ∷ es) zero e q = ap (λ y. Some y.formula) (some_is q)
-formula_at (x ∷ es) (suc i) e q = formula_at es i e q
+formula_at es i e q = slice_get-map (λ e. e.formula) es i ∙ ap (option_map (λ e. e.formula)) q
 
 pub entry_at : (es : List Entry) (i : ℕ) (f : Formula) → slice_get (formulas es) i ≡ Some f → (e : Entry) × (slice_get es i ≡ Some e) × (e.formula ≡ f)
-entry_at [] i f q = absurd (none_some q)
-entry_at (x ∷ es) zero f q = (x, refl, some_is q)
-entry_at (x ∷ es) (suc i) f q = entry_at es i f q
+entry_at es i f q = go (slice_get es i) refl (sym (slice_get-map (λ e. e.formula) es i) ∙ q)
+  where
+    go : (o : Option Entry) → slice_get es i ≡ o → option_map (λ e. e.formula) o ≡ Some f → (e : Entry) × (slice_get es i ≡ Some e) × (e.formula ≡ f)
+    go None here z = absurd (none-some _ z)
+    go (Some e) here z = (e, here, same_Some _ _ z)
 
 pub no_formula_at : (es : List Entry) (i : ℕ) → slice_get es i ≡ None → slice_get (formulas es) i ≡ None
-no_formula_at [] i q = refl
-no_formula_at (x ∷ es) zero q = absurd (none_some (sym q))
-no_formula_at (x ∷ es) (suc i) q = no_formula_at es i q
+no_formula_at es i q = slice_get-map (λ e. e.formula) es i ∙ ap (option_map (λ e. e.formula)) q

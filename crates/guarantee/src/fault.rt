@@ -70,6 +70,7 @@ impl RosterFault {
     }
 }
 
+// These conversions are written by hand: contracts say which refusal `?` makes, and a derived one says nothing of it.
 impl From<RuleFault> for RosterFault {
     ghost from_gives = { λ e r. r ≡ Rule e };
 

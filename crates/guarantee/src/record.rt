@@ -34,18 +34,14 @@ impl Record {
         ensures { self.new ≡ noted self.old bound verdict }
     {
         match verdict {
-            Verdict::Undecided => match self.undecided {
-                Some(highest) if highest > bound => {}
-                _ => {
-                    self.undecided = Some(bound);
-                }
-            },
-            Verdict::Holds | Verdict::Fails => match self.found {
-                Some(found) if found.bound <= bound => {}
-                _ => {
+            Verdict::Undecided => {
+                self.undecided = Some(self.undecided.map_or(bound, |highest| highest.max(bound)));
+            }
+            Verdict::Holds | Verdict::Fails => {
+                if self.found.is_none_or(|found| bound < found.bound) {
                     self.found = Some(Found { bound, verdict });
                 }
-            },
+            }
         }
     }
 
@@ -53,26 +49,17 @@ impl Record {
     pub fn found_by(&self, bound: u16) -> Option<Verdict>
         ensures { result ≡ found_by self.now.found bound }
     {
-        match self.found {
-            Some(found) if found.bound <= bound => Some(found.verdict),
-            _ => None,
-        }
+        self.found
+            .filter(|found| found.bound <= bound)
+            .map(|found| found.verdict)
     }
 
     // What the record says of `bound`, if it says anything.
     pub fn known_at(&self, bound: u16) -> Option<Verdict>
         ensures { result ≡ known_at self.now bound }
     {
-        if let Some(found) = self.found {
-            if found.bound <= bound {
-                return Some(found.verdict);
-            }
-        }
-        if let Some(highest) = self.undecided {
-            if bound <= highest {
-                return Some(Verdict::Undecided);
-            }
-        }
-        None
+        let undecided = self.undecided.filter(|highest| bound <= *highest);
+        self.found_by(bound)
+            .or(undecided.map(|_| Verdict::Undecided))
     }
 }

@@ -1,5 +1,6 @@
 -- What a model must be for a roster to open on it, and what is refused.
 use Rattle.std.proofs.Common.{◌≡◌, Bool, true, false, cond, leb, List, [], Some, None, Ok, Err, Option, sym, refl, ap, ◌∙◌, subst, inl, inr, arith}
+use Rattle.std.proofs.lemmas.Option.{none-some}
 use mathlib.Core.Bool.{false≢true}
 use Rattle.std.proofs.lemmas.Bool.{le-leb, lt-leb}
 use Rattle.model.specs.Meaning.{Meaning, Starts, Total, guarded}
@@ -10,12 +11,10 @@ use Rattle.sets.specs.declared.set.StateSet.{StateSet}
 use Rattle.table.specs.Kept.{kept, Shows, Unkept}
 use Rattle.table.specs.declared.kept.Table.{Table}
 use Rattle.guarantee.proofs.Guarding.{guarded_is_alike}
-use Rattle.guarantee.proofs.Listing.{none_some}
 use Rattle.guarantee.specs.Limits.{most_states}
-use Rattle.guarantee.specs.Rights.{AllRight}
 use Rattle.guarantee.specs.States.{State, blank, opened, Entry, model_fault, just_opened}
 use Rattle.guarantee.specs.declared.fault.RosterFault.{RosterFault}
-use Rattle.guarantee.specs.declared.fault.RosterFault.TheVariants.{Opened, Size, NoStart}
+use Rattle.guarantee.specs.declared.fault.RosterFault.TheVariants.{Size, NoStart}
 use Rattle.roster.specs.Books.{book_state}
 use Rattle.roster.specs.Opens.{Opens}
 use Rattle.roster.specs.declared.book.Book.{Book}
@@ -51,16 +50,12 @@ kept_is_sized t m e =
     in
     rw (some, small, starts) refl
 
-pub open_already : (o : Option Book) (b : Book) (m : Meaning) → o ≡ Some b → Opens (book_state o) m (Err Opened) (book_state o)
-open_already None b m e = absurd (none_some e)
-open_already (Some x) b m e = (refl, refl)
-
 by_fault : (m : Meaning) (f : RosterFault) → model_fault m ≡ Some f → Opens blank m (Err f) blank
 by_fault m f e = rw e (refl, refl)
 
 pub open_sized : (o : Option Book) (m : Meaning) → o ≡ None → Total m → Unkept m → Opens (book_state o) m (Err Size) (book_state o)
 open_sized None m e law u = by_fault m Size (unkept_is_size m law u)
-open_sized (Some x) m e law u = absurd (none_some (sym e))
+open_sized (Some x) m e law u = absurd (none-some _ (sym e))
 
 module _ (o : Option Book) (m : Meaning) (t : Table) (b : o ≡ None) (e : kept t ≡ guarded m) where
   pub open_startless : any_below (Starts (kept t)) t.count ≡ false → Opens (book_state o) m (Err NoStart) (book_state o)
@@ -74,7 +69,3 @@ module _ (o : Option Book) (m : Meaning) (t : Table) (b : o ≡ None) (e : kept 
       let fine : model_fault m ≡ None = kept_is_sized t m e ∙ ap (λ (x : Bool). cond x None (Some NoStart)) h in
       let so : opened (kept t) es ≡ just_opened m = cc (e, n) in
       subst P (sym (ap book_state b)) (rw fine (refl, so))
-
--- no rule, no record that could be wrong
-pub none_is_right : (m : Meaning) (es : List Entry) → es ≡ [] → AllRight m es
-none_is_right m es n = let P : List Entry → Type 0 = λ l. AllRight m l in subst P (sym n) (λ i e q. absurd (none_some q))

@@ -3,11 +3,8 @@ pub mod Climbing
 pub mod Keeping
 pub mod Laying
 pub mod Negating
-pub mod OnBooks
 pub mod Places
-pub mod Refusing
 pub mod Showings
-pub mod Standings
 pub mod Starting
 pub mod Ways
 pub mod Witnessing

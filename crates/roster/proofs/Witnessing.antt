@@ -1,75 +1,35 @@
 -- A path that is written shows the verdict recorded.
-use Rattle.std.proofs.Common.{◌≡◌, ℕ, suc, ◌+◌, ◌<◌, ◌≤◌, Bool, true, false, leb, ◌⊎◌, List, ◌++◌, length, take, drop, Some, None, Ok, vec_items, Option, sym, refl, ap, ◌∙◌, subst, inl, inr, add-one, arith, take-append-drop}
+use Rattle.std.proofs.Common.{◌≡◌, ℕ, suc, ◌+◌, ◌<◌, ◌≤◌, true, leb, ◌⊎◌, List, ◌++◌, length, take, drop, Some, None, Ok, Err, Result, vec_items, Option, sym, refl, ap, ◌∙◌, subst, inl, inr, add-one, arith, take-append-drop}
 use mathlib.Core.Bool.{false≢true}
 use mathlib.Core.HLevel.{⊥_prop}
 use mathlib.Core.Logic.{∥∥₁_elim, ∥∥₁_map}
-use Rattle.std.proofs.lemmas.Bool.{leb-true, cases_lt}
+use Rattle.std.proofs.lemmas.Bool.{cases_lt}
 use Rattle.std.specs.List.{slice_get}
 use Rattle.std.specs.Option.{option_map}
+use Rattle.std.specs.Result.{IsOk, OnErr}
+use Rattle.std.proofs.lemmas.Option.{slice_get-map, none-some}
 use Rattle.model.specs.Meaning.{Meaning, Starts}
 use Rattle.ctl.proofs.Listed.{by_lists}
 use Rattle.ctl.proofs.Tests.{decides_any, decides_yes}
-use Rattle.ctl.specs.Cost.{nodes_cost}
 use Rattle.ctl.specs.Formula.{Formula, PathPart, constant, literal, join, path, negation, negation_part}
 use Rattle.ctl.specs.KPath.{Witness}
-use Rattle.ctl.specs.States.{states_that_count}
 use Rattle.ctl.specs.Truth.{upto, True}
 use Rattle.ctl.specs.declared.Quantifier.TheVariants.{All, Exists}
 use Rattle.ctl.specs.declared.Verdict.{Verdict}
 use Rattle.ctl.specs.declared.Verdict.TheVariants.{Holds, Fails, Undecided}
 use Rattle.rule.specs.Tree.{formula}
 use Rattle.table.proofs.Answering.{kept_total}
-use Rattle.guarantee.proofs.Listing.{none_some}
 use Rattle.guarantee.proofs.Opening.{test_passed}
 use Rattle.guarantee.proofs.Showing.{a_path_is_there}
 use Rattle.guarantee.specs.Limits.{most_bound}
-use Rattle.guarantee.specs.Looks.{looks_at}
 use Rattle.guarantee.specs.Records.{found_by}
 use Rattle.guarantee.specs.States.{opened, Entry, root_shows, witness_fault, entry_path_fault, Lowest, Shows, ShowsFound, EntryShows, ShowsRecorded, WritesBy, Writes}
 use Rattle.guarantee.specs.declared.fault.RosterFault.{RosterFault}
-use Rattle.roster.proofs.Places.{nth_map}
 use Rattle.roster.specs.Books.{model_in, laid_in}
-use Rattle.roster.specs.Entries.{entry_of, entries_of}
+use Rattle.roster.specs.Entries.{entry_of}
 use Rattle.roster.specs.Showing.{StartShown, showing, RootShown, NoRootShown}
 use Rattle.roster.specs.declared.book.Book.{Book}
 use Rattle.roster.specs.declared.laid.Laid.{Laid}
-
--- what is shown costs no more than the rule
-pub showing_is_cheap : (m : Meaning) (k limit : ℕ) (f : Formula) → looks_at m f k ≤ limit → nodes_cost m (states_that_count m) (showing f) k ≤ limit
-showing_is_cheap m k limit (constant b) h = omega (arith, h)
-showing_is_cheap m k limit (literal b c) h = omega (arith, h)
-showing_is_cheap m k limit (join op f g) h = omega (arith, h)
-showing_is_cheap m k limit (path All x) h = omega (arith, h)
-showing_is_cheap m k limit (path Exists x) h = omega (arith, h)
-
--- ---- what no refusal means
-
--- the rule is laid, its verdict recorded, its root shows it, the buffer has room and the looks suffice
-pub record Unrefused (m : Meaning) (xs : List Laid) (i k limit room : ℕ) : Type 0 where
-  pub laid : Laid
-  pub here : slice_get xs i ≡ Some laid
-  pub verdict : Verdict
-  pub found : found_by laid.said.found k ≡ Some verdict
-  pub root : root_shows (formula laid.trees.rule) verdict ≡ true
-  pub roomy : k < room
-  pub cheap : looks_at m (formula laid.trees.rule) k ≤ limit
-
-pub unrefused : (m : Meaning) (xs : List Laid) (i k limit room : ℕ) → entry_path_fault m (slice_get (entries_of xs) i) k limit room ≡ None
-    → Unrefused m xs i k limit room
-unrefused m xs i k limit room e = at_rule (slice_get xs i) refl (ap (λ o. entry_path_fault m o k limit room) (sym (nth_map entry_of xs i)) ∙ e)
-  where
-    at_verdict : (x : Laid) → slice_get xs i ≡ Some x → (o : Option Verdict) → found_by x.said.found k ≡ o
-        → witness_fault m (formula x.trees.rule) k limit room o ≡ None → Unrefused m xs i k limit room
-    at_verdict x here None found h = absurd (none_some (sym h))
-    at_verdict x here (Some v) found h =
-        let root = test_passed (root_shows (formula x.trees.rule) v) _ _ h in
-        let room = test_passed (leb (suc k) room) _ _ root.1 in
-        let cheap = test_passed (leb (looks_at m (formula x.trees.rule) k) limit) _ _ room.1 in
-        record { laid = x; here = here; verdict = v; found = found; root = root.0; roomy = leb-true _ _ room.0; cheap = leb-true _ _ cheap.0 }
-
-    at_rule : (o : Option Laid) → slice_get xs i ≡ o → entry_path_fault m (option_map entry_of o) k limit room ≡ None → Unrefused m xs i k limit room
-    at_rule None here h = absurd (none_some (sym h))
-    at_rule (Some x) here h = at_verdict x here (found_by x.said.found k) refl (test_passed (leb k most_bound) _ _ h).1
 
 -- ---- what is written
 
@@ -125,37 +85,55 @@ module _ (m : Meaning) (k : ℕ) (before after : List ℕ) where
   found_one (path All x) Fails r there none = ∥∥₁_elim there ⊥_prop (λ h. none h.1.0 (h.1.1.here.0, (h.0, h.1.2)))
   found_one (path All x) Undecided r there none = false≢true r
 
-  shown_either_way : (f : Formula) (v : Verdict) (r : Bool) → root_shows f v ≡ true → ∥ ((l : List ℕ) × Shows m f k v l) ∥₁
-      → (r ≡ true → RootShown m (showing f) k before after) → (r ≡ false → NoRootShown m (showing f) k) → ShownInFront f v
-  shown_either_way f v true root there yes_so no_so = shown_in_front f v root there (yes_so refl)
-  shown_either_way f v false root there yes_so no_so = absurd (found_one f v root there (no_so refl))
+-- where path is not refused, a verdict is recorded and the root shows it
+unrefused : (m : Meaning) (x : Entry) (k limit room : ℕ) → entry_path_fault m (Some x) k limit room ≡ None
+    → (v : Verdict) × (found_by x.said.found k ≡ Some v) × (root_shows x.formula v ≡ true)
+unrefused m x k limit room e = go (found_by x.said.found k) refl (test_passed (leb k most_bound) _ _ e).1
+  where
+    go : (o : Option Verdict) → found_by x.said.found k ≡ o → witness_fault m x.formula k limit room o ≡ None
+        → (v : Verdict) × (found_by x.said.found k ≡ Some v) × (root_shows x.formula v ≡ true)
+    go None found h = absurd (none-some _ (sym h))
+    go (Some v) found h = (v, found, (test_passed (root_shows x.formula v) _ _ h).0)
 
-module _ (b : Book) (i k limit : ℕ) (before after : List ℕ) (e : entry_path_fault (model_in b) (slice_get (laid_in b) i) k limit (length before) ≡ None) where
+module _ (b : Book) (i k limit : ℕ) (x : Laid) (before after : List ℕ) (here : slice_get (vec_items b.records.items) i ≡ Some x)
+    (e : entry_path_fault (model_in b) (Some (entry_of x)) k limit (length before) ≡ None) where
+  entry : slice_get (laid_in b) i ≡ Some (entry_of x)
+  entry = slice_get-map entry_of (vec_items b.records.items) i ∙ ap (option_map entry_of) here
+
+  unrefused_there : entry_path_fault (model_in b) (slice_get (laid_in b) i) k limit (length before) ≡ None
+  unrefused_there = ap (λ o. entry_path_fault (model_in b) o k limit (length before)) entry ∙ e
+
+  abbrev Entered : List ℕ → Option Entry → Type 0
+  Entered l o = EntryShows (model_in b) o k l
+
+  abbrev Found : List ℕ → Option Verdict → Type 0
+  Found l o = ShowsFound (model_in b) (formula x.trees.rule) k o l
+
   -- a path that shows the verdict recorded is there
-  recorded_is_there : ∥ ((l : List ℕ) × ShowsRecorded (opened (model_in b) (laid_in b)) i k l) ∥₁
-  recorded_is_there =
+  recorded_is_there : (v : Verdict) → found_by x.said.found k ≡ Some v → ∥ ((l : List ℕ) × Shows (model_in b) (formula x.trees.rule) k v l) ∥₁
+  recorded_is_there v found =
       let start = (decides_any (Starts (model_in b)) (λ s. Starts (model_in b) s ≡ true) b.table.count (λ s _. decides_yes (Starts (model_in b) s))).0 b.started in
-      ∥∥₁_map b.right (λ right. a_path_is_there (model_in b) (kept_total b.table) start.0 start.2 (laid_in b) right i k limit (length before) e)
+      ∥∥₁_map b.right
+      (λ right.
+      let (l, shows) = a_path_is_there (model_in b) (kept_total b.table) start.0 start.2 (laid_in b) right i k limit (length before) unrefused_there in
+      (l, subst (Found l) found (subst (Entered l) entry shows)))
 
-  pub path_written : (r : Bool)
-      → ((x : Laid) → slice_get (vec_items b.records.items) i ≡ Some x → r ≡ true → RootShown (model_in b) (showing (formula x.trees.rule)) k before after)
-      → ((x : Laid) → slice_get (vec_items b.records.items) i ≡ Some x → r ≡ false → NoRootShown (model_in b) (showing (formula x.trees.rule)) k)
-      → Writes (opened (model_in b) (laid_in b)) i k limit before (Ok (k + 1)) after
-  path_written r yes_so no_so =
-      let m : Meaning = model_in b in
-      let w = unrefused m (vec_items b.records.items) i k limit (length before) e in
-      let f : Formula = formula w.laid.trees.rule in
-      let entry : slice_get (laid_in b) i ≡ Some (entry_of w.laid) = nth_map entry_of (vec_items b.records.items) i ∙ ap (option_map entry_of) w.here in
-      let Found : List ℕ → Option Verdict → Type 0 = λ l o. ShowsFound m f k o l in
-      let Entered : List ℕ → Option Entry → Type 0 = λ l o. EntryShows m o k l in
-      let there : ∥ ((l : List ℕ) × Shows m f k w.verdict l) ∥₁ =
-      ∥∥₁_map recorded_is_there (λ (l, h). (l, subst (Found l) w.found (subst (Entered l) entry h)))
+  -- so one is found
+  pub one_is_found : {E : Type 0} (r : Result (Unit {0}) E) → OnErr r (NoRootShown (model_in b) (showing (formula x.trees.rule)) k) → IsOk r
+  one_is_found (Ok u) none = refl
+  one_is_found (Err _) none =
+      let (v, found, root) = unrefused (model_in b) (entry_of x) k limit (length before) e in
+      absurd (found_one (model_in b) k before after (formula x.trees.rule) v root (recorded_is_there v found) none)
+
+  -- and what is written shows the verdict
+  pub path_written : (n : ℕ) → n ≡ k → RootShown (model_in b) (showing (formula x.trees.rule)) k before after
+      → Writes (opened (model_in b) (laid_in b)) i k limit before (Ok (n + 1)) after
+  path_written n same shown =
+      let (v, found, root) = unrefused (model_in b) (entry_of x) k limit (length before) e in
+      let front : ShownInFront (model_in b) k before after (formula x.trees.rule) v =
+      shown_in_front (model_in b) k before after (formula x.trees.rule) v root (recorded_is_there v found) shown
       in
-      let front : ShownInFront m k before after f w.verdict =
-      shown_either_way m k before after f w.verdict r w.root there (yes_so w.laid w.here) (no_so w.laid w.here)
-      in
-      let back : ShowsRecorded (opened m (laid_in b)) i k (take (suc k) after) =
-      subst (Entered (take (suc k) after)) (sym entry) (subst (Found (take (suc k) after)) (sym w.found) front.0)
-      in
-      let By : Option RosterFault → Type 0 = λ o. WritesBy o (opened m (laid_in b)) i k before (Ok (k + 1)) after in
-      subst By (sym e) (ap Ok (add-one k), (take (suc k) after, back, front.1))
+      let l : List ℕ = take (suc k) after in
+      let back : ShowsRecorded (opened (model_in b) (laid_in b)) i k l = subst (Entered l) (sym entry) (subst (Found l) (sym found) front.0) in
+      let By : Option RosterFault → Type 0 = λ o. WritesBy o (opened (model_in b) (laid_in b)) i k before (Ok (n + 1)) after in
+      subst By (sym unrefused_there) (ap Ok (add-one n ∙ ap suc same), (l, back, front.1))

@@ -1,53 +1,59 @@
 // A try of one rule at one bound.
-ghost use Rattle.std.specs.Prelude.{◌≡◌, ℕ, ◌<◌, length, Some};
+ghost use Rattle.std.specs.Prelude.{◌≡◌, None};
 ghost use Rattle.std.specs.List.{slice_get};
 ghost use Rattle.rule.specs.Tree.{formula};
-ghost use Rattle.guarantee.specs.States.{try_entry, entries_after, try_answer, try_after};
-ghost use Rattle.verdict.specs.Judging.{Judged, WithinLimit};
+ghost use Rattle.table.specs.Kept.{kept};
+ghost use Rattle.guarantee.specs.States.{judged, try_entry, entries_after, try_answer, try_after};
 ghost use Rattle.roster.specs.Books.{model_in, laid_in, state_of};
-ghost use Rattle.roster.specs.declared.laid.Laid.{Laid};
 
 use crate::book::{Book, Roster};
+use crate::laid::Laid;
 use guarantee::{RosterFault, Tried};
-use verdict::judged::{Judgement, judge};
+use table::kept::Table;
+use verdict::judged::judge;
 
 // The highest bound that may be tried.
 pub const HIGHEST: u16 = 255;
 
-impl Book {
-    // The verdict on rule i at a bound by evaluation, or none where it costs more than the limit.
-    pub(crate) fn evaluate(&self, i: usize, bound: u16, limit: u32) -> Option<Judgement>
-        requires { i < length self.now.records.items.items }
-        ensures judged { (x : Laid) → slice_get self.now.records.items.items i ≡ Some x → Judged (model_in self.now) (formula x.trees.rule) bound limit result }
-        ensures within { WithinLimit limit result }
+impl Laid {
+    // The verdict on the rule at a bound by evaluation; refused where it costs more looks than the limit.
+    // Table, bound and limit stay three parameters: `judge` and `witness` take them one by one.
+    #[tactic(auto, using(crate::proofs::Negating::negates))]
+    pub(crate) fn evaluate(
+        &self,
+        table: &Table,
+        bound: u16,
+        limit: u32,
+    ) -> Result<Tried, RosterFault>
+        ensures { result ≡ judged (kept table.now) (formula self.now.trees.rule) bound limit None }
     {
-        let trees = &self.records.items[i].trees;
-        judge(&self.table, &trees.rule, &trees.negation, bound, limit)
+        let judgement = judge(table, &self.trees.rule, &self.trees.negation, bound, limit).ok_or(
+            RosterFault::Looks,
+        )?;
+        Ok(Tried {
+            verdict: judgement.verdict,
+            looks: judgement.looks,
+        })
     }
+}
 
+impl Book {
     // The record's answer, or else that of an evaluation, which the record then takes.
     pub(crate) fn attempt(&mut self, i: usize, bound: u16, limit: u32) -> Result<Tried, RosterFault>
         ensures answer { result ≡ try_entry (model_in self.old) (slice_get (laid_in self.old) i) bound limit }
         ensures after { laid_in self.new ≡ entries_after (laid_in self.old) i bound (slice_get (laid_in self.old) i) result }
         ensures model { model_in self.new ≡ model_in self.old }
     {
-        let Some(said) = self.records.get(i) else {
-            return Err(RosterFault::NotLaid);
-        };
+        let laid = self.records.get(i)?;
         if bound > HIGHEST {
             return Err(RosterFault::Bound);
         }
-        if let Some(verdict) = said.known_at(bound) {
+        if let Some(verdict) = laid.said.known_at(bound) {
             return Ok(Tried { verdict, looks: 0 });
         }
-        let Some(judgement) = self.evaluate(i, bound, limit) else {
-            return Err(RosterFault::Looks);
-        };
-        self.records.note(i, bound, judgement.verdict);
-        Ok(Tried {
-            verdict: judgement.verdict,
-            looks: judgement.looks,
-        })
+        let tried = laid.evaluate(&self.table, bound, limit)?;
+        self.records.note(i, bound, tried.verdict);
+        Ok(tried)
     }
 }
 
@@ -57,9 +63,6 @@ impl Roster {
         ensures answer { result ≡ try_answer (state_of self.old) i bound limit }
         ensures after { state_of self.new ≡ try_after (state_of self.old) i bound limit }
     {
-        match &mut self.book {
-            Some(book) => book.attempt(i, bound, limit),
-            None => Err(RosterFault::Blank),
-        }
+        self.opened_mut()?.attempt(i, bound, limit)
     }
 }

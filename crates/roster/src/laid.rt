@@ -19,7 +19,7 @@ pub struct Laid {
     pub(crate) said: Record,
 }
 
-// The rules laid, by their numbers. No record is handed out: one at a time is changed in place.
+// The rules laid, by their numbers. No record is handed out to be changed: one at a time is changed in place.
 #[derive(Drop)]
 pub struct Records {
     pub(crate) items: Vec<Laid>,

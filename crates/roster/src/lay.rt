@@ -32,18 +32,14 @@ fn refusal(fault: RuleFault) -> RosterFault
 fn read_trees(heap: Global, text: &[u8]) -> Result<Trees, RosterFault>
     ensures { MatchResult result (λ t. ReadsAs text.now (Ok (formula t.rule))) (λ e. (e ≡ Memory) ⊎ ((x : RuleFault) × (e ≡ Text x) × Earns text.now x)) }
 {
-    let rule = match read_rule(heap, text) {
-        Ok(rule) => rule,
-        Err(fault) => return Err(refusal(fault)),
-    };
-    match rule.negated(heap) {
-        Ok(negation) => Ok(Trees { rule, negation }),
-        Err(_) => Err(RosterFault::Memory),
-    }
+    let rule = read_rule(heap, text).map_err(refusal)?;
+    let negation = rule.negated(heap)?;
+    Ok(Trees { rule, negation })
 }
 
 impl Book {
     // Lays a rule with an empty record, and answers its number.
+    #[tactic(auto, using(crate::proofs::Laying::lay_refused, crate::proofs::Laying::lay_taken))]
     pub(crate) fn lay(&mut self, heap: Global, text: &[u8]) -> Result<usize, RosterFault>
         ensures { LaysOrWantsMemory (opened (model_in self.old) (laid_in self.old)) text.now result (opened (model_in self.new) (laid_in self.new)) }
     {
@@ -51,15 +47,10 @@ impl Book {
         if number >= MOST {
             return Err(RosterFault::Full);
         }
-        let trees = match read_trees(heap, text) {
-            Ok(trees) => trees,
-            Err(fault) => return Err(fault),
-        };
+        let trees = read_trees(heap, text)?;
         let said = Record::new();
-        match self.records.add(Laid { trees, said }) {
-            Ok(_) => Ok(number),
-            Err(_) => Err(RosterFault::Memory),
-        }
+        self.records.add(Laid { trees, said })?;
+        Ok(number)
     }
 }
 
@@ -68,9 +59,6 @@ impl Roster {
     pub(crate) fn lay(&mut self, heap: Global, text: &[u8]) -> Result<usize, RosterFault>
         ensures { LaysOrWantsMemory (state_of self.old) text.now result (state_of self.new) }
     {
-        match &mut self.book {
-            Some(book) => book.lay(heap, text),
-            None => Err(RosterFault::Blank),
-        }
+        self.opened_mut()?.lay(heap, text)
     }
 }

@@ -1,20 +1,21 @@
 // A path that shows the verdict recorded of a rule, or why none is written.
-ghost use Rattle.std.specs.Prelude.{◌≡◌, ℕ, ◌<◌, ◌≤◌, true, false, length, Some};
+ghost use Rattle.std.specs.Prelude.{◌≡◌, ◌<◌, ◌≤◌, length, Some, IfOk, OnErr};
 ghost use Rattle.std.specs.List.{slice_get};
-ghost use Rattle.ctl.specs.Cost.{nodes_cost, parts_cost};
+ghost use Rattle.std.specs.Result.{result_err};
+ghost use Rattle.ctl.specs.Cost.{parts_cost};
 ghost use Rattle.ctl.specs.States.{states_that_count};
 ghost use Rattle.model.specs.Meaning.{Starts};
 ghost use Rattle.table.specs.Kept.{kept};
 ghost use Rattle.rule.specs.Tree.{formula, part_formula};
 ghost use Rattle.guarantee.specs.Looks.{looks_at};
 ghost use Rattle.guarantee.specs.States.{quantifier_shows, root_shows, opened, entry_path_fault, path_fault, Writes};
+ghost use Rattle.roster.specs.Entries.{entry_of};
 ghost use Rattle.roster.specs.Showing.{ShownAt, NoneShown, RootShown, NoRootShown, showing};
 ghost use Rattle.roster.specs.Books.{model_in, laid_in, state_of};
-ghost use Rattle.roster.specs.declared.laid.Laid.{Laid};
 
 use crate::attempt::HIGHEST;
 use crate::book::{Book, Roster};
-use crate::laid::Trees;
+use crate::laid::{Laid, Trees};
 use ctl::{Quantifier, Verdict};
 use guarantee::RosterFault;
 use rule::tree::{PathPart, Rule};
@@ -26,16 +27,10 @@ use witness::root::witness;
 fn quantifier_shows(quantifier: Quantifier, verdict: Verdict) -> bool
     ensures { result ≡ quantifier_shows quantifier verdict }
 {
-    match quantifier {
-        Quantifier::Exists => match verdict {
-            Verdict::Holds => true,
-            Verdict::Fails | Verdict::Undecided => false,
-        },
-        Quantifier::All => match verdict {
-            Verdict::Fails => true,
-            Verdict::Holds | Verdict::Undecided => false,
-        },
-    }
+    matches!(
+        (quantifier, verdict),
+        (Quantifier::Exists, Verdict::Holds) | (Quantifier::All, Verdict::Fails)
+    )
 }
 
 // Is the root of the rule E for holds, A for fails?
@@ -43,74 +38,75 @@ fn root_shows(rule: &Rule, verdict: Verdict) -> bool
     ensures { result ≡ root_shows (formula rule.now) verdict }
 {
     match rule {
-        Rule::Constant(_) => false,
-        Rule::Literal(_, _) => false,
-        Rule::Join(_, _, _) => false,
         Rule::Path(quantifier, _) => quantifier_shows(*quantifier, verdict),
+        _ => false,
+    }
+}
+
+impl Laid {
+    // Refuses a path of the rule into a buffer of `room` bytes, for the first reason that there is.
+    fn check_path(
+        &self,
+        table: &Table,
+        bound: u16,
+        limit: u32,
+        room: usize,
+    ) -> Result<(), RosterFault>
+        ensures { result_err result ≡ entry_path_fault (kept table.now) (Some (entry_of self.now)) bound limit room }
+    {
+        if bound > HIGHEST {
+            return Err(RosterFault::Bound);
+        }
+        let verdict = self.said.found_by(bound).ok_or(RosterFault::NoVerdict)?;
+        if !root_shows(&self.trees.rule, verdict) {
+            return Err(RosterFault::Root);
+        }
+        if room <= usize::from(bound) {
+            return Err(RosterFault::Room);
+        }
+        self.evaluate(table, bound, limit)?;
+        Ok(())
     }
 }
 
 impl Book {
-    // Does the root of rule i show the verdict?
-    fn rule_shows(&self, i: usize, verdict: Verdict) -> bool
-        requires { i < length self.now.records.items.items }
-        ensures { (x : Laid) → slice_get self.now.records.items.items i ≡ Some x → result ≡ root_shows (formula x.trees.rule) verdict }
-    {
-        root_shows(&self.records.items[i].trees.rule, verdict)
-    }
-
-    // Why no path of rule i is written into a buffer of `room` bytes, if none is.
-    pub(crate) fn path_refusal(
+    // Refuses a path of rule i into a buffer of `room` bytes, for the first reason that there is.
+    pub(crate) fn check_path(
         &self,
         i: usize,
         bound: u16,
         limit: u32,
         room: usize,
-    ) -> Option<RosterFault>
-        ensures { result ≡ entry_path_fault (model_in self.now) (slice_get (laid_in self.now) i) bound limit room }
+    ) -> Result<(), RosterFault>
+        ensures { result_err result ≡ entry_path_fault (model_in self.now) (slice_get (laid_in self.now) i) bound limit room }
     {
-        let Some(said) = self.records.get(i) else {
-            return Some(RosterFault::NotLaid);
-        };
-        if bound > HIGHEST {
-            return Some(RosterFault::Bound);
-        }
-        let Some(verdict) = said.found_by(bound) else {
-            return Some(RosterFault::NoVerdict);
-        };
-        if !self.rule_shows(i, verdict) {
-            return Some(RosterFault::Root);
-        }
-        if room <= bound as usize {
-            return Some(RosterFault::Room);
-        }
-        match self.evaluate(i, bound, limit) {
-            Some(_) => None,
-            None => Some(RosterFault::Looks),
-        }
+        self.records
+            .get(i)?
+            .check_path(&self.table, bound, limit, room)
     }
 }
 
 impl Roster {
-    // Why a path call is refused, if it is.
-    pub(crate) fn path_refusal(
+    // Refuses a path call, for the first reason that there is.
+    pub(crate) fn check_path(
         &self,
         i: usize,
         bound: u16,
         limit: u32,
         room: usize,
-    ) -> Option<RosterFault>
-        ensures { result ≡ path_fault (state_of self.now) i bound limit room }
+    ) -> Result<(), RosterFault>
+        ensures { result_err result ≡ path_fault (state_of self.now) i bound limit room }
     {
-        match &self.book {
-            Some(book) => book.path_refusal(i, bound, limit, room),
-            None => Some(RosterFault::Blank),
-        }
+        self.opened()?.check_path(i, bound, limit, room)
     }
 }
 
-// Is the state a start?
-pub(crate) fn is_start(table: &Table, s: usize) -> bool
+// No start has a path to show.
+#[derive(Clone, Copy, Debug)]
+struct NoPath;
+
+// Is the state a start? A table tells of a set only whether it has a start in it.
+fn is_start(table: &Table, s: usize) -> bool
     requires { s < table.now.count }
     ensures { result ≡ Starts (kept table.now) s }
 {
@@ -120,74 +116,62 @@ pub(crate) fn is_start(table: &Table, s: usize) -> bool
 }
 
 // Writes a witness for the part from the lowest start that has one; if none has, it touches nothing.
-pub(crate) fn show(table: &Table, part: &PathPart, k: u16, limit: u32, out: &mut [u8]) -> bool
+#[tactic(auto, using(crate::proofs::Showings::shown_here, crate::proofs::Showings::no_start_no_path, crate::proofs::Showings::no_witness_no_path, crate::proofs::Showings::no_path_anywhere))]
+fn show(table: &Table, part: &PathPart, k: u16, limit: u32, out: &mut [u8]) -> Result<(), NoPath>
     requires room { k < length out.old }
     requires cheap { parts_cost (kept table.now) (states_that_count (kept table.now)) (part_formula part.now) k ≤ limit }
-    ensures shown { result ≡ true → ShownAt (kept table.now) (part_formula part.now) k out.old out.new }
-    ensures untouched { result ≡ false → out.new ≡ out.old }
-    ensures none { result ≡ false → NoneShown (kept table.now) (part_formula part.now) k }
+    ensures shown { IfOk result (λ _. ShownAt (kept table.now) (part_formula part.now) k out.old out.new) }
+    ensures untouched { OnErr result (out.new ≡ out.old) }
+    ensures none { OnErr result (NoneShown (kept table.now) (part_formula part.now) k) }
 {
     let counted = table.counted();
+    // A loop, since nothing is known of a lent buffer that a closure writes into.
     for s in 0..table.count() {
-        if is_start(table, s) {
-            if witness(table, counted, part, k, limit, s, out) {
-                return true;
-            }
+        if is_start(table, s) && witness(table, counted, part, k, limit, s, out) {
+            return Ok(());
         }
     }
-    false
-}
-
-// So for the path part under the E at the root of a tree; without E there it touches nothing.
-fn show_root(table: &Table, tree: &Rule, k: u16, limit: u32, out: &mut [u8]) -> bool
-    requires room { k < length out.old }
-    requires cheap { nodes_cost (kept table.now) (states_that_count (kept table.now)) (formula tree.now) k ≤ limit }
-    ensures shown { result ≡ true → RootShown (kept table.now) (formula tree.now) k out.old out.new }
-    ensures untouched { result ≡ false → out.new ≡ out.old }
-    ensures none { result ≡ false → NoRootShown (kept table.now) (formula tree.now) k }
-{
-    match tree {
-        Rule::Constant(_) => false,
-        Rule::Literal(_, _) => false,
-        Rule::Join(_, _, _) => false,
-        Rule::Path(quantifier, part) => match quantifier {
-            Quantifier::Exists => show(table, part, k, limit, out),
-            Quantifier::All => false,
-        },
-    }
+    Err(NoPath)
 }
 
 impl Trees {
     // The tree that has a path to show: under A it is the negation's, and else the rule's own.
+    #[tactic(auto, using(crate::proofs::Negating::negates))]
     fn showing(&self) -> &Rule
         ensures { formula result.now ≡ showing (formula self.now.rule) }
     {
         match &self.rule {
-            Rule::Constant(_) => &self.rule,
-            Rule::Literal(_, _) => &self.rule,
-            Rule::Join(_, _, _) => &self.rule,
-            Rule::Path(quantifier, _) => match quantifier {
-                Quantifier::Exists => &self.rule,
-                Quantifier::All => &self.negation,
-            },
+            Rule::Path(Quantifier::All, _) => &self.negation,
+            _ => &self.rule,
         }
     }
 }
 
-impl Book {
-    // Writes a path that shows the verdict on rule i, if there is one.
-    fn write_path(&self, i: usize, bound: u16, limit: u32, buffer: &mut [u8]) -> bool
-        requires laid { i < length self.now.records.items.items }
+impl Laid {
+    // Writes a path that shows the verdict on the rule; if there is none, it touches nothing.
+    fn write_path(
+        &self,
+        table: &Table,
+        bound: u16,
+        limit: u32,
+        buffer: &mut [u8],
+    ) -> Result<(), NoPath>
         requires room { bound < length buffer.old }
-        requires cheap { (x : Laid) → slice_get self.now.records.items.items i ≡ Some x → looks_at (model_in self.now) (formula x.trees.rule) bound ≤ limit }
-        ensures shown { (x : Laid) → slice_get self.now.records.items.items i ≡ Some x → result ≡ true → RootShown (model_in self.now) (showing (formula x.trees.rule)) bound buffer.old buffer.new }
-        ensures none { (x : Laid) → slice_get self.now.records.items.items i ≡ Some x → result ≡ false → NoRootShown (model_in self.now) (showing (formula x.trees.rule)) bound }
+        requires cheap { looks_at (kept table.now) (formula self.now.trees.rule) bound ≤ limit }
+        ensures shown { IfOk result (λ _. RootShown (kept table.now) (showing (formula self.now.trees.rule)) bound buffer.old buffer.new) }
+        ensures untouched { OnErr result (buffer.new ≡ buffer.old) }
+        ensures none { OnErr result (NoRootShown (kept table.now) (showing (formula self.now.trees.rule)) bound) }
     {
-        let tree = self.records.items[i].trees.showing();
-        show_root(&self.table, tree, bound, limit, buffer)
+        let Rule::Path(Quantifier::Exists, part) = self.trees.showing() else {
+            return Err(NoPath);
+        };
+        show(table, part, bound, limit, buffer)
     }
+}
 
+impl Book {
     // Writes a path that shows the verdict on rule i, and answers how many states it has.
+    #[tactic(auto, using(crate::proofs::Witnessing::one_is_found, crate::proofs::Witnessing::path_written))]
     pub(crate) fn path(
         &self,
         i: usize,
@@ -197,11 +181,11 @@ impl Book {
     ) -> Result<usize, RosterFault>
         ensures { Writes (opened (model_in self.now) (laid_in self.now)) i bound limit buffer.old result buffer.new }
     {
-        if let Some(fault) = self.path_refusal(i, bound, limit, buffer.len()) {
-            return Err(fault);
-        }
-        self.write_path(i, bound, limit, buffer);
-        Ok(bound as usize + 1)
+        let laid = self.records.get(i)?;
+        laid.check_path(&self.table, bound, limit, buffer.len())?;
+        // Where no path is refused there is one.
+        laid.write_path(&self.table, bound, limit, buffer).unwrap();
+        Ok(usize::from(bound) + 1)
     }
 }
 
@@ -216,9 +200,6 @@ impl Roster {
     ) -> Result<usize, RosterFault>
         ensures { Writes (state_of self.now) i bound limit buffer.old result buffer.new }
     {
-        match &self.book {
-            Some(book) => book.path(i, bound, limit, buffer),
-            None => Err(RosterFault::Blank),
-        }
+        self.opened()?.path(i, bound, limit, buffer)
     }
 }

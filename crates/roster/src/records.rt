@@ -1,13 +1,13 @@
 // The table of records: how a rule is added, and how one record is read and changed.
-ghost use Rattle.std.specs.Prelude.{◌≡◌, ℕ, ◌<◌, [], ◌∷◌, ◌++◌, length, MatchResult, slice_index_or, slice_set};
+ghost use Rattle.std.specs.Prelude.{◌≡◌, ◌<◌, [], ◌∷◌, ◌++◌, length, Some, None, MatchResult, slice_index_or, slice_set};
 ghost use Rattle.std.specs.List.{slice_get};
-ghost use Rattle.std.specs.Option.{option_map};
+ghost use Rattle.guarantee.specs.declared.fault.RosterFault.TheVariants.{NotLaid};
 ghost use Rattle.guarantee.specs.Records.{noted};
 ghost use Rattle.roster.specs.declared.laid.Laid.{Laid};
 
 use crate::laid::{Laid, Records};
 use ctl::Verdict;
-use guarantee::Record;
+use guarantee::RosterFault;
 use std::alloc::{AllocError, Global};
 
 impl Records {
@@ -35,14 +35,11 @@ impl Records {
         Ok(())
     }
 
-    // A copy of the record of rule i, if that is laid.
-    pub(crate) fn get(&self, i: usize) -> Option<Record>
-        ensures { result ≡ option_map (λ (x : Laid). x.said) (slice_get self.now.items.items i) }
+    // Rule i with its record, if that is laid.
+    pub(crate) fn get(&self, i: usize) -> Result<&Laid, RosterFault>
+        ensures { MatchResult result (λ x. slice_get self.now.items.items i ≡ Some x.now) (λ e. (e ≡ NotLaid) × (slice_get self.now.items.items i ≡ None)) }
     {
-        match self.items.get(i) {
-            Some(laid) => Some(laid.said),
-            None => None,
-        }
+        self.items.get(i).ok_or(RosterFault::NotLaid)
     }
 
     // Notes in the record of rule i what an evaluation at `bound` gave; the other records stay.

@@ -11,10 +11,7 @@ impl Book {
     fn standing(&self, i: usize) -> Result<Record, RosterFault>
         ensures { result ≡ standing_answer (state_in self.now) i }
     {
-        match self.records.get(i) {
-            Some(said) => Ok(said),
-            None => Err(RosterFault::NotLaid),
-        }
+        Ok(self.records.get(i)?.said)
     }
 }
 
@@ -23,9 +20,6 @@ impl Roster {
     pub(crate) fn standing(&self, i: usize) -> Result<Record, RosterFault>
         ensures { result ≡ standing_answer (state_of self.now) i }
     {
-        match &self.book {
-            Some(book) => book.standing(i),
-            None => Err(RosterFault::Blank),
-        }
+        self.opened()?.standing(i)
     }
 }
