@@ -1,5 +1,5 @@
 -- Whether one state is a start.
-use Rattle.std.proofs.Common.{◌≡◌, ℕ, ◌<◌, Bool, true, false, ◌||◌, eqb, refl, ap, ◌∙◌, ⊎_elim}
+use Rattle.std.proofs.Common.{◌≡◌, ℕ, ◌<◌, Bool, true, false, eqb, refl, ap, ◌∙◌, ⊎_elim}
 use Rattle.std.proofs.lemmas.Bool.{cases_eq, eq-eqb, ne_eqb}
 use Rattle.ctl.specs.Decision.{and_then, any_below}
 use Rattle.model.specs.Meaning.{Starts}
@@ -13,26 +13,17 @@ and_false : (b : Bool) → and_then b (λ _. false) ≡ false
 and_false true = refl
 and_false false = refl
 
--- a state put into a set is in it
-pub inserted_here : (x y : StateSet) (s : ℕ) → ((u : ℕ) → member y u ≡ (eqb u s || member x u)) → member y s ≡ true
-inserted_here x y s h = h s ∙ ap (λ b. b || member x s) (eq-eqb s s refl)
-
--- put into a set with none, it is the only one
-pub inserted_elsewhere : (x y : StateSet) (s : ℕ) → ((u : ℕ) → member x u ≡ false) → ((u : ℕ) → member y u ≡ (eqb u s || member x u))
-    → (u : ℕ) → (u ≡ s → ⊥) → member y u ≡ false
-inserted_elsewhere x y s none h u ne = h u ∙ ap (λ b. b || member x u) (ne_eqb u s ne) ∙ none u
-
 -- a set with one state meets the starts if that state is a start
-pub only_start : (t : Table) (x : StateSet) (s : ℕ) → s < t.count → member x s ≡ true → ((u : ℕ) → (u ≡ s → ⊥) → member x u ≡ false)
+pub only_start : (t : Table) (x : StateSet) (s : ℕ) → s < t.count → ((u : ℕ) → member x u ≡ eqb u s)
     → any_below (λ u. and_then (Starts (kept t) u) (λ _. member x u)) t.count ≡ Starts (kept t) s
-only_start t x s l here others = go (Starts (kept t) s) refl
+only_start t x s l only = go (Starts (kept t) s) refl
   where
     go : (b : Bool) → Starts (kept t) s ≡ b → any_below (λ u. and_then (Starts (kept t) u) (λ _. member x u)) t.count ≡ b
-    go true e = any_yes (λ u. and_then (Starts (kept t) u) (λ _. member x u)) t.count s l (ap (λ b. and_then b (λ _. member x s)) e ∙ here)
+    go true e = any_yes (λ u. and_then (Starts (kept t) u) (λ _. member x u)) t.count s l (ap (λ b. and_then b (λ _. member x s)) e ∙ (only s ∙ eq-eqb s s refl))
     go false e =
         any_no (λ u. and_then (Starts (kept t) u) (λ _. member x u)) t.count
         (λ u _.
         ⊎_elim
         (λ q. ap (λ w. and_then (Starts (kept t) w) (λ _. member x w)) q ∙ ap (λ b. and_then b (λ _. member x s)) e)
-        (λ ne. ap (λ b. and_then (Starts (kept t) u) (λ _. b)) (others u ne) ∙ and_false (Starts (kept t) u))
+        (λ ne. ap (λ b. and_then (Starts (kept t) u) (λ _. b)) (only u ∙ ne_eqb u s ne) ∙ and_false (Starts (kept t) u))
         (cases_eq u s))

@@ -27,9 +27,8 @@ impl Laid {
     ) -> Result<Tried, RosterFault>
         ensures { result ≡ judged (kept table.now) (formula self.now.trees.rule) bound limit None }
     {
-        let judgement = judge(table, &self.trees.rule, &self.trees.negation, bound, limit).ok_or(
-            RosterFault::Looks,
-        )?;
+        let judgement = judge(table, &self.trees.rule, &self.trees.negation, bound, limit)
+            .map_err(|_above| RosterFault::Looks)?;
         Ok(Tried {
             verdict: judgement.verdict,
             looks: judgement.looks,

@@ -17,6 +17,7 @@ use crate::attempt::HIGHEST;
 use crate::book::{Book, Roster};
 use crate::laid::{Laid, Trees};
 use ctl::{Quantifier, Verdict};
+use evaluate::evaluation::Evaluation;
 use guarantee::RosterFault;
 use rule::tree::{PathPart, Rule};
 use sets::set::StateSet;
@@ -110,9 +111,7 @@ fn is_start(table: &Table, s: usize) -> bool
     requires { s < table.now.count }
     ensures { result ≡ Starts (kept table.now) s }
 {
-    let mut only = StateSet::none();
-    only.insert(s);
-    table.starts_in(only)
+    table.starts_in(StateSet::only(s))
 }
 
 // Writes a witness for the part from the lowest start that has one; if none has, it touches nothing.
@@ -124,10 +123,10 @@ fn show(table: &Table, part: &PathPart, k: u16, limit: u32, out: &mut [u8]) -> R
     ensures untouched { OnErr result (out.new ≡ out.old) }
     ensures none { OnErr result (NoneShown (kept table.now) (part_formula part.now) k) }
 {
-    let counted = table.counted();
+    let evaluation = Evaluation::new(table, k);
     // A loop, since nothing is known of a lent buffer that a closure writes into.
     for s in 0..table.count() {
-        if is_start(table, s) && witness(table, counted, part, k, limit, s, out) {
+        if is_start(table, s) && witness(&evaluation, part, limit, s, out).is_ok() {
             return Ok(());
         }
     }
