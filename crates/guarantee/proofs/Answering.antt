@@ -5,7 +5,7 @@ use mathlib.Core.Logic.Dec
 use native.Mathlib.Decide.{dec_le}
 use Rattle.std.proofs.lemmas.Bool.Decides.{Decides-ltb}
 use Rattle.model.specs.Meaning.{Meaning, Starts, Total, guarded}
-use Rattle.ctl.proofs.Guards.{to_both}
+use Rattle.std.proofs.lemmas.Bool.{and_from}
 use Rattle.ctl.proofs.Tests.{decides_any, decides_yes}
 use Rattle.ctl.specs.Decision.{any_below}
 use Rattle.ctl.specs.Formula.{Formula}
@@ -85,7 +85,7 @@ start_there : (m : Meaning) → open_fault blank m ≡ None → (s : ℕ) × (St
 start_there m h =
     let any : any_below (Starts m) m.count ≡ true = (test_passed _ _ _ (test_passed (leb m.count most_states) _ _ (test_passed (leb 1 m.count) _ _ h).1).1).0 in
     let x = (decides_any (Starts m) (λ s. Starts m s ≡ true) m.count (λ s _. decides_yes (Starts m s))).0 any in
-    (x.0, to_both (ltb x.0 m.count) (Starts m x.0) ((Decides-ltb x.0 m.count).1 x.1) x.2)
+    (x.0, and_from (ltb x.0 m.count) (Starts m x.0) ((Decides-ltb x.0 m.count).1 x.1) x.2)
 
 pub every_list_is_answered : EveryListIsAnswered
 every_list_is_answered m law h calls =

@@ -1,9 +1,8 @@
 -- What open's questions give of the model, and what holds of the calls on it.
 use Rattle.std.proofs.Common.{◌≡◌, ◌≤◌, Bool, true, false, cond, ◌&&◌, ltb, leb, Some, None, Ok, Option, sym, refl, ap, ◌∙◌}
 use Rattle.std.proofs.lemmas.Option.{none-some}
-use Rattle.std.proofs.lemmas.Bool.{leb-true}
+use Rattle.std.proofs.lemmas.Bool.{leb-true, and_parts, and_from}
 use Rattle.model.specs.Meaning.{Meaning, Moves, Total, guarded}
-use Rattle.ctl.proofs.Guards.{both, to_both}
 use Rattle.ctl.proofs.Judging.{only_the_computed}
 use Rattle.guarantee.specs.Claims.{EveryOpenedRunIsGuaranteed, RecordsStayRight, SettleEnds}
 use Rattle.guarantee.specs.Limits.{most_states}
@@ -24,10 +23,10 @@ test_passed false o e h = absurd (none-some _ (sym h))
 pub guarded_is_total : (m : Meaning) → Total m → Total (guarded m)
 guarded_is_total m law s h =
     let t = (law s h).0 in
-    let below : ltb s m.count ≡ true = (both (ltb s m.count) (ltb t m.count && m.moves s t) (law s h).1).0 in
+    let below : ltb s m.count ≡ true = (and_parts (ltb s m.count) (ltb t m.count && m.moves s t) (law s h).1).0 in
     let to : ltb t m.count ≡ true =
-    (both (ltb t m.count) (m.moves s t) (both (ltb s m.count) (ltb t m.count && m.moves s t) (law s h).1).1).0 in
-    (t, to_both (ltb s m.count) (ltb t m.count && Moves m s t) below (to_both (ltb t m.count) (Moves m s t) to (law s h).1))
+    (and_parts (ltb t m.count) (m.moves s t) (and_parts (ltb s m.count) (ltb t m.count && m.moves s t) (law s h).1).1).0 in
+    (t, and_from (ltb s m.count) (ltb t m.count && Moves m s t) below (and_from (ltb t m.count) (Moves m s t) to (law s h).1))
 
 pub opened_is_small : (m : Meaning) → open_fault blank m ≡ None → m.count ≤ most_states
 opened_is_small m h = leb-true m.count most_states (test_passed _ _ _ (test_passed (leb 1 m.count) _ _ h).1).0

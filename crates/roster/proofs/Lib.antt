@@ -5,6 +5,5 @@ pub mod Laying
 pub mod Negating
 pub mod Places
 pub mod Showings
-pub mod Starting
 pub mod Ways
 pub mod Witnessing

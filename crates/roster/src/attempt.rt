@@ -17,7 +17,7 @@ pub const HIGHEST: u16 = 255;
 
 impl Laid {
     // The verdict on the rule at a bound by evaluation; refused where it costs more looks than the limit.
-    // Table, bound and limit stay three parameters: `judge` and `witness` take them one by one.
+    // Table, bound and limit stay three parameters: `judge` takes them one by one.
     #[tactic(auto, using(crate::proofs::Negating::negates))]
     pub(crate) fn evaluate(
         &self,
@@ -27,8 +27,9 @@ impl Laid {
     ) -> Result<Tried, RosterFault>
         ensures { result ≡ judged (kept table.now) (formula self.now.trees.rule) bound limit None }
     {
-        let judgement = judge(table, &self.trees.rule, &self.trees.negation, bound, limit)
-            .map_err(|_above| RosterFault::Looks)?;
+        let judgement = judge(table, &self.trees.rule, &self.trees.negation, bound, limit).map_err(
+            |_above| RosterFault::Looks,
+        )?;
         Ok(Tried {
             verdict: judgement.verdict,
             looks: judgement.looks,
@@ -37,7 +38,8 @@ impl Laid {
 }
 
 impl Book {
-    // The record's answer, or else that of an evaluation, which the record then takes.
+    // The record's answer, or else that of an evaluation, which the record then takes. Rule, bound and limit are the
+    // call's own, as users give them; `model` ties the book before to the book after, which no invariant of one can.
     pub(crate) fn attempt(&mut self, i: usize, bound: u16, limit: u32) -> Result<Tried, RosterFault>
         ensures answer { result ≡ try_entry (model_in self.old) (slice_get (laid_in self.old) i) bound limit }
         ensures after { laid_in self.new ≡ entries_after (laid_in self.old) i bound (slice_get (laid_in self.old) i) result }

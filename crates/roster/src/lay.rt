@@ -18,7 +18,8 @@ use std::alloc::Global;
 // How many rules may be laid.
 pub const MOST: usize = 16;
 
-// The refusal of a text; want of memory is the roster's own.
+// The refusal of a text; want of memory is the roster's own, so this is not the `From` of a rule's fault, which
+// carries every fault whole.
 fn refusal(fault: RuleFault) -> RosterFault
     ensures { result ≡ refused_as fault }
 {

@@ -20,7 +20,6 @@ use ctl::{Quantifier, Verdict};
 use evaluate::evaluation::Evaluation;
 use guarantee::RosterFault;
 use rule::tree::{PathPart, Rule};
-use sets::set::StateSet;
 use table::kept::Table;
 use witness::root::witness;
 
@@ -106,12 +105,12 @@ impl Roster {
 #[derive(Clone, Copy, Debug)]
 struct NoPath;
 
-// Is the state a start? A table tells of a set only whether it has a start in it.
+// Is the state a start?
 fn is_start(table: &Table, s: usize) -> bool
     requires { s < table.now.count }
     ensures { result ≡ Starts (kept table.now) s }
 {
-    table.starts_in(StateSet::only(s))
+    table.starts().contains(s)
 }
 
 // Writes a witness for the part from the lowest start that has one; if none has, it touches nothing.

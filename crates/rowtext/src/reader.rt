@@ -9,7 +9,8 @@ use text::figures::number;
 use text::pieces::piece_end;
 
 // The text up to a line's end, and how far it is read: places are those of the whole text, and the
-// steps count `at` themselves, since a fault tells it.
+// steps count `at` themselves, since a fault tells it. `same` is no fact of a reader: it ties its text
+// before a step to that after it.
 #[derive(Drop)]
 struct Reader<'a> {
     text: &'a [u8],

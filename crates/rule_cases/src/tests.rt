@@ -67,7 +67,7 @@ fn every_byte_alone_is_answered(rt: HostRuntime) -> Result<(), Fail> {
     Ok(())
 }
 
-// What stands at the root of a tree.
+// What stands at the root of a tree, in the table's words. No Display: no program prints a root.
 fn root(rule: &Rule) -> &'static str {
     match rule {
         Rule::Constant(true) => "1",

@@ -1,4 +1,6 @@
 // What is done with sets. Each contract speaks of every number: one past the last word is no member.
+// That a state is below the limit is asked where one is put in or taken out: a type for such a number
+// would ask more of callers than the number does.
 ghost use Rattle.std.specs.Prelude.{◌≡◌, ℕ, ◌+◌, ◌-◌, ◌<◌, ◌≤◌, true, false, not, ◌&&◌, ◌||◌, MatchOption, ◌==◌, nat_lt, slice_index};
 ghost use Rattle.ctl.specs.States.{size_below};
 ghost use Rattle.sets.specs.Sets.{word_count, state_limit, bit, member, LowestFrom};

@@ -6,4 +6,5 @@ pub mod asked;
 pub mod kept;
 pub mod lassos;
 pub mod rounds;
+pub mod starts;
 pub mod steps;

@@ -121,7 +121,8 @@ impl<'a> Reader<'a> {
         }
     }
 
-    // U or R, behind a rule.
+    // U or R, behind a rule. It stands beside `close`, which reads one sign too: one function for both would
+    // take what is looked for, what is made of it and where rules may end, and be longer than the two.
     fn binary(&mut self) -> Result<Binary, RuleFault>
         requires { Ended (ahead self.old) }
         ensures onward { Onward self.old self.new }
