@@ -3,6 +3,7 @@ pub mod Climbing
 pub mod Keeping
 pub mod Laying
 pub mod Negating
+pub mod OnBooks
 pub mod Places
 pub mod Showings
 pub mod Ways
