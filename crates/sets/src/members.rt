@@ -8,7 +8,7 @@ ghost use Rattle.sets.specs.Sets.{state_limit, member};
 use crate::set::StateSet;
 
 // The members that are still to come.
-#[derive(Clone, Copy, Debug)]
+#[derive(Clone, Debug, Drop)]
 pub struct Members {
     left: StateSet,
 }

@@ -58,6 +58,7 @@ impl StateSet {
             .is_some_and(|word| (word >> (s % 64)) & 1 == 1)
     }
 
+    #[tactic(auto, using(crate::proofs::Words::write_bit))]
     pub fn insert(&mut self, s: usize)
         requires { s < state_limit }
         ensures { (t : ℕ) → member self.new t ≡ (t == s || member self.old t) }
@@ -65,6 +66,7 @@ impl StateSet {
         self.words[s / 64] |= 1u64 << (s % 64);
     }
 
+    #[tactic(auto, using(crate::proofs::Words::drop_bit))]
     pub fn without(self, s: usize) -> StateSet
         requires { s < state_limit }
         ensures { (t : ℕ) → member result t ≡ (member self t && not (t == s)) }
@@ -84,16 +86,28 @@ impl StateSet {
         }
     }
 
+    #[tactic(auto, using(crate::proofs::Bits::bit_of_or))]
     pub fn union(self, other: StateSet) -> StateSet
         ensures { (s : ℕ) → member result s ≡ (member self s || member other s) }
     {
-        self.by_words(other, |a, b| a | b)
+        self.by_words(
+            other,
+            |a, b| -> u64
+                ensures { (i : ℕ) → i < 64 → bit result i ≡ (bit a i || bit b i) }
+            { a | b },
+        )
     }
 
+    #[tactic(auto, using(crate::proofs::Bits::bit_of_and))]
     pub fn intersect(self, other: StateSet) -> StateSet
         ensures { (s : ℕ) → member result s ≡ (member self s && member other s) }
     {
-        self.by_words(other, |a, b| a & b)
+        self.by_words(
+            other,
+            |a, b| -> u64
+                ensures { (i : ℕ) → i < 64 → bit result i ≡ (bit a i && bit b i) }
+            { a & b },
+        )
     }
 
     pub fn minus(self, other: StateSet) -> StateSet

@@ -6,5 +6,4 @@ pub mod asked;
 pub mod kept;
 pub mod lassos;
 pub mod rounds;
-pub mod starts;
 pub mod steps;
