@@ -105,16 +105,8 @@ impl Roster {
 #[derive(Clone, Copy, Debug)]
 struct NoPath;
 
-// Is the state a start?
-fn is_start(table: &Table, s: usize) -> bool
-    requires { s < table.now.count }
-    ensures { result ≡ Starts (kept table.now) s }
-{
-    table.starts().contains(s)
-}
-
 // Writes a witness for the part from the lowest start that has one; if none has, it touches nothing.
-#[tactic(auto, using(crate::proofs::Showings::shown_here, crate::proofs::Showings::no_start_no_path, crate::proofs::Showings::no_witness_no_path, crate::proofs::Showings::no_path_anywhere))]
+#[tactic(auto, using(crate::proofs::Showings::no_path_anywhere))]
 fn show(table: &Table, part: &PathPart, k: u16, limit: u32, out: &mut [u8]) -> Result<(), NoPath>
     requires room { k < length out.old }
     requires cheap { parts_cost (kept table.now) (states_that_count (kept table.now)) (part_formula part.now) k ≤ limit }
@@ -124,8 +116,8 @@ fn show(table: &Table, part: &PathPart, k: u16, limit: u32, out: &mut [u8]) -> R
 {
     let evaluation = Evaluation::new(table, k);
     // A loop, since nothing is known of a lent buffer that a closure writes into.
-    for s in 0..table.count() {
-        if is_start(table, s) && witness(&evaluation, part, limit, s, out).is_ok() {
+    for s in table.starts() {
+        if witness(&evaluation, part, limit, s, out).is_ok() {
             return Ok(());
         }
     }
