@@ -1,5 +1,5 @@
 -- A whole text: lines are read one after another, and the first that breaks the form is the fault.
-use Rattle.std.proofs.Common.{◌≡◌, ℕ, ◌+◌, ◌-◌, ◌<◌, ◌≤◌, true, eqb, leb, List, [], ◌∷◌, ◌++◌, length, get_or, take, drop, Some, None, Ok, Option, sym, refl, ap, ◌∙◌, subst, ⊎_elim, arith}
+use Rattle.std.proofs.Common.{◌≡◌, ℕ, ◌+◌, ◌-◌, ◌<◌, ◌≤◌, Bool, true, false, cond, eqb, leb, List, [], ◌∷◌, ◌++◌, length, get_or, take, drop, Some, None, Ok, Option, sym, refl, ap, ◌∙◌, subst, ⊎_elim, arith}
 use Rattle.std.specs.Option.{option_or}
 use Rattle.std.specs.List.{AllByRecursion}
 use Rattle.std.proofs.str.Laws.{order}
@@ -28,6 +28,14 @@ module _ (text : List ℕ) (lawful : has_lines text ≡ true) where
   pub some_line : (ls : List Line) → text ≡ text_of ls → 0 < length ls
   some_line [] e = absurd (omega (arith, last_byte, ap (λ xs. get_or xs (length xs - 1) 0) e))
   some_line (l ∷ ls) e = omega arith
+
+told : (b : Bool) (m n : ℕ) → cond b (Some m) None ≡ Some n → (b ≡ true) × (n ≡ m)
+told true m n e = (refl, cc)
+told false m n e = absurd (cc)
+
+-- a count is told of a lawful text alone, and it is that of its lines
+pub lawful_text : (text : List ℕ) (n : ℕ) → cond (has_lines text) (Some (newlines text)) None ≡ Some n → (has_lines text ≡ true) × (n ≡ newlines text)
+lawful_text text n = told (has_lines text) (newlines text) n
 
 -- what is read up to `at`: so many rows, and the first target not below n
 pub record ReadSoFar (text : List ℕ) (n at : ℕ) (rows : List Row) (beyond : Option ℕ) : Type 0 where
