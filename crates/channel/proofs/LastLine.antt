@@ -2,7 +2,7 @@
 use Rattle.std.proofs.Common.{◌≡◌, ℕ, zero, suc, ◌+◌, ◌-◌, ◌<◌, ◌≤◌, Bool, true, false, ◌&&◌, eqb, leb, ◌⊎◌, List, [], ◌∷◌, ◌++◌, length, get_or, take, drop, decimal, sym, refl, ap, ◌∙◌, subst, inl, inr, ⊎_elim, arith}
 use Rattle.std.proofs.str.Laws.{order}
 use Rattle.std.specs.Cmp.Lexicographic.{pointwise, same_text}
-use Rattle.std.proofs.lemmas.Bool.{and_left, and_right, false≢true, or_cases, eqb-true, and_from, and_parts, le-leb, lt-leb}
+use Rattle.std.proofs.lemmas.Bool.{and_left, and_right, false≢true, or_cases, eq-eqb, eqb-true, and_from, and_parts, le-leb, lt-leb}
 use Rattle.std.proofs.lemmas.List.{take-append-drop, append_assoc, length-append, length-take-le, take-append-le, append_cancel_right, get_or_append_left, get_or-append_right, take_at, drop_at, length-drop, get_or-drop}
 use Rattle.std.proofs.lemmas.Fmt.{digits_decimal, decimal_injective}
 use Rattle.text.proofs.Digits.{Figures, own}
@@ -80,8 +80,10 @@ no_newline file body n t last =
     let d : drop (length file - 1) file ≡ 10 ∷ [] = ap (drop (length file - 1)) whole ∙ drop_at (body ++ line) (10 ∷ []) (length file - 1) (omega (arith, ap length whole, length-append (body ++ line) (10 ∷ []))) in
     false≢true (sym t ∙ ap (λ xs. pointwise eqb xs (10 ∷ [])) d)
 
-pub fits_sized : (file : List ℕ) → (length file ≡ 0 → ⊥) → length file ≤ most_bytes → sized file ≡ true
-fits_sized file some few = and_from (leb 1 (length file)) (leb (length file) most_bytes) (le-leb 1 (length file) (omega arith)) (le-leb (length file) most_bytes few)
+pub fits_sized : (file : List ℕ) → false ≡ eqb (length file) 0 → length file ≤ most_bytes → sized file ≡ true
+fits_sized file e few =
+    let some : length file ≡ 0 → ⊥ = λ z. false≢true (e ∙ eq-eqb (length file) 0 z) in
+    and_from (leb 1 (length file)) (leb (length file) most_bytes) (le-leb 1 (length file) (omega arith)) (le-leb (length file) most_bytes few)
 
 pub not_sized : (file : List ℕ) → (length file ≡ 0) ⊎ (16384 < length file) → sized file ≡ false
 not_sized file (inl none) = and_left (leb 1 (length file)) (leb (length file) most_bytes) (lt-leb 1 (length file) (omega arith))

@@ -7,6 +7,7 @@ use Rattle.rowtext.proofs.Described.{described}
 use Rattle.rowtext.proofs.TextForms.{ReadSoFar, all_read, broken_there, few_newlines, lawful_text, one_more, some_line}
 use Rattle.rowtext.specs.Faults.{text_beyond}
 use Rattle.rowtext.specs.Format.{line_of, lines_of}
+use Rattle.text.proofs.Cuts.{same_line}
 use Rattle.text.specs.Lines.{NextLine}
 use Rattle.rowtext.proofs.lines.read_rows.Goals as goal
 
@@ -14,14 +15,14 @@ pub returns-in_err-row : goal.returns-in_err-row
 returns-in_err-row c =
     let p = err_from_is_err_and c.from_residual-in_err-row.result c.from_residual-in_err-row.ensures.1 in
     let so = c.loop-line.invariant in
-    let is = subst (λ t. NextLine t c.loop-line.line-iterator.at c.next.new.self.at (Some c.in-Some.line)) so.same c.in-Some.ensures.steps.1 in
+    let is = same_line so.same c.in-Some.ensures.steps.1 in
     rw (p.1, p.2) (⊎_elim inl (λ b. inr (inr ((lawful_text c.args.text.now _ (sym c.lawful_count.ensures ∙ c.in_ok-count.ensures.ok_part)).0, inl (broken_there c.args.text.now c.in_ok-count.count _ _ c.in-Some.line _ _ so.read is _ b)))) c.in_err-row.ensures)
 
 pub loop-line-preserved : goal.loop-line-preserved
 loop-line-preserved c =
     let so = c.loop-line.invariant in
     let row = c.in_ok-row.row in
-    let is = subst (λ t. NextLine t c.loop-line.line-iterator.at c.next.new.self.at (Some c.in-Some.line)) so.same c.in-Some.ensures.steps.1 in
+    let is = same_line so.same c.in-Some.ensures.steps.1 in
     let more = one_more c.args.text.now c.in_ok-count.count _ _ c.in-Some.line _ _ so.read is row c.in_ok-row.late c.in_ok-row.ensures in
     let p : vec_items c.push.new.self ≡ vec_items c.loop-line.rows ++ row ∷ [] = pushed (row ∷ []) refl c.in_ok-push.was c.push.ensures.items in
     record {
