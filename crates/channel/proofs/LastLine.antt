@@ -2,6 +2,8 @@
 use Rattle.std.proofs.Common.{◌≡◌, ℕ, zero, suc, ◌+◌, ◌-◌, ◌<◌, ◌≤◌, Bool, true, false, ◌&&◌, eqb, leb, ◌⊎◌, List, [], ◌∷◌, ◌++◌, length, get_or, take, drop, decimal, sym, refl, ap, ◌∙◌, subst, inl, inr, ⊎_elim, arith}
 use Rattle.std.proofs.str.Laws.{order}
 use Rattle.std.specs.Cmp.Lexicographic.{pointwise, same_text}
+use Rattle.std.specs.List.{between}
+use Rattle.std.proofs.lemmas.Slice.{between_to_end}
 use Rattle.std.proofs.lemmas.Bool.{and_left, and_right, false≢true, or_cases, eq-eqb, eqb-true, and_from, and_parts, le-leb, lt-leb}
 use Rattle.std.proofs.lemmas.List.{take-append-drop, append_assoc, length-append, length-take-le, take-append-le, append_cancel_right, get_or_append_left, get_or-append_right, take_at, drop_at, length-drop, get_or-drop}
 use Rattle.std.proofs.lemmas.Fmt.{digits_decimal, decimal_injective}
@@ -60,17 +62,17 @@ module _ (file lines : List ℕ) (ends : file ≡ lines ++ 10 ∷ []) where
   long_lines = omega (arith, ap length ends, length-append lines (10 ∷ []))
 
   -- what was found is the last line
-  pub found : (at n : ℕ) → at ≤ length lines → drop at lines ≡ 64 ∷ decimal n → file ≡ take at file ++ 64 ∷ (decimal n ++ 10 ∷ [])
+  pub found : (at n : ℕ) → at ≤ length lines → between at (length lines) lines ≡ 64 ∷ decimal n → file ≡ take at file ++ 64 ∷ (decimal n ++ 10 ∷ [])
   found at n h left =
       let front : take at lines ≡ take at file = sym (take-append-le at lines (10 ∷ []) h) ∙ ap (take at) (sym ends) in
-      ends ∙ ap (λ xs. xs ++ 10 ∷ []) (sym (take-append-drop at lines) ∙ ap (λ xs. take at lines ++ xs) left ∙ ap (λ xs. xs ++ 64 ∷ decimal n) front) ∙ append_assoc (take at file) (64 ∷ decimal n) (10 ∷ [])
+      ends ∙ ap (λ xs. xs ++ 10 ∷ []) (sym (take-append-drop at lines) ∙ ap (λ xs. take at lines ++ xs) (sym (between_to_end lines at (length lines) (omega arith)) ∙ left) ∙ ap (λ xs. xs ++ 64 ∷ decimal n) front) ∙ append_assoc (take at file) (64 ∷ decimal n) (10 ∷ [])
 
   -- the last line, where it is lawful
-  pub last_there : (at n : ℕ) (body : List ℕ) → LineBegins file (length lines) at → Last file body n → drop at lines ≡ 64 ∷ decimal n
+  pub last_there : (at n : ℕ) (body : List ℕ) → LineBegins file (length lines) at → Last file body n → between at (length lines) lines ≡ 64 ∷ decimal n
   last_there at n body f last =
       let k : at ≡ length body = one_front file body n last at (subst (λ j. LineBegins file j at) long_lines f) in
       let whole : lines ≡ body ++ 64 ∷ decimal n = append_cancel_right lines (body ++ 64 ∷ decimal n) (10 ∷ []) (sym ends ∙ last.whole ∙ sym (append_assoc body (64 ∷ decimal n) (10 ∷ []))) in
-      ap (drop at) whole ∙ drop_at body (64 ∷ decimal n) at (sym k)
+      between_to_end lines at (length lines) (omega arith) ∙ ap (drop at) whole ∙ drop_at body (64 ∷ decimal n) at (sym k)
 
 -- a lawful last line is not told from a file without a newline at its end
 pub no_newline : (file body : List ℕ) (n : ℕ) → pointwise eqb (drop (length file - 1) file) (10 ∷ []) ≡ false → Last file body n → ⊥

@@ -48,7 +48,7 @@ pub targets_more : (rest left left' left'' : List ℕ) (ts : List ℕ) (t : ℕ)
 targets_more rest left left' left'' ts t e f g =
     e ∙ ap (λ xs. comma_ended ts ++ xs) (f ∙ ap (λ xs. decimal t ++ xs) g ∙ sym (append_assoc (decimal t) (44 ∷ []) left'')) ∙ sym (append_assoc (comma_ended ts) (with_comma t) left'') ∙ ap (λ xs. xs ++ left'') (flat_map_more with_comma [] ts t)
 
-pub targets_snoc : (ts : List ℕ) (t : ℕ) → targets_text (ts ++ t ∷ []) ≡ comma_ended ts ++ decimal t
+targets_snoc : (ts : List ℕ) (t : ℕ) → targets_text (ts ++ t ∷ []) ≡ comma_ended ts ++ decimal t
 targets_snoc [] t = refl
 targets_snoc (x ∷ []) t = sym (append_assoc (decimal x) (44 ∷ []) (decimal t)) ∙ ap (λ xs. xs ++ decimal t) (sym (append-nil (with_comma x)))
 targets_snoc (x ∷ y ∷ ts) t = ap (λ xs. decimal x ++ 44 ∷ xs) (targets_snoc (y ∷ ts) t) ∙ sym (append_assoc (decimal x) (44 ∷ []) (comma_ended (y ∷ ts) ++ decimal t)) ∙ sym (append_assoc (with_comma x) (comma_ended (y ∷ ts)) (decimal t))

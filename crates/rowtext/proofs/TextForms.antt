@@ -44,7 +44,7 @@ pub record ReadSoFar (text : List ℕ) (n at : ℕ) (rows : List Row) (beyond : 
   pub counted : newlines text ≡ length rows + newlines (drop at text)
   pub beyond_is : beyond ≡ text_beyond n 0 (lines_of rows)
 
-pub lines_more : (text left : List ℕ) (ls : List Line) (l : Line) (line after : List ℕ) → text ≡ text_of ls ++ left → left ≡ line ++ 10 ∷ after → line ≡ line_text l → text ≡ text_of (ls ++ l ∷ []) ++ after
+lines_more : (text left : List ℕ) (ls : List Line) (l : Line) (line after : List ℕ) → text ≡ text_of ls ++ left → left ≡ line ++ 10 ∷ after → line ≡ line_text l → text ≡ text_of (ls ++ l ∷ []) ++ after
 lines_more text left ls l line after e f g =
     e ∙ ap (λ xs. text_of ls ++ xs) (f ∙ ap (λ xs. xs ++ 10 ∷ after) g ∙ sym (append_assoc (line_text l) (10 ∷ []) after)) ∙ sym (append_assoc (text_of ls) (with_newline l) after) ∙ ap (λ xs. xs ++ after) (flat_map_more with_newline [] ls l)
 
@@ -56,7 +56,7 @@ option_or_assoc : (a b c : Option ℕ) → option_or a (option_or b c) ≡ optio
 option_or_assoc (Some p) b c = refl
 option_or_assoc None b c = refl
 
-pub text_beyond_push : (n at : ℕ) (ls : List Line) (l : Line) → text_beyond n at (ls ++ l ∷ []) ≡ option_or (text_beyond n at ls) (line_beyond n (at + length (text_of ls)) l)
+text_beyond_push : (n at : ℕ) (ls : List Line) (l : Line) → text_beyond n at (ls ++ l ∷ []) ≡ option_or (text_beyond n at ls) (line_beyond n (at + length (text_of ls)) l)
 text_beyond_push n at [] l = option_or_none (line_beyond n at l) ∙ ap (λ k. line_beyond n k l) (let z : at ≡ at + 0 = omega arith in z)
 text_beyond_push n at (x ∷ ls) l =
     let k = at + length (with_newline x) in

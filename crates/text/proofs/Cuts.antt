@@ -10,7 +10,7 @@ use Rattle.std.specs.declared.ops.Range.{Range}
 use Rattle.text.specs.Lines.{IsLine}
 use Rattle.text.specs.Pieces.{PieceEnd, EndsHere, Without}
 
-pub without_by_places : (d : ℕ) (xs : List ℕ) → ((k : ℕ) → k < length xs → get_or xs k 0 ≡ d → ⊥) → Without d xs
+without_by_places : (d : ℕ) (xs : List ℕ) → ((k : ℕ) → k < length xs → get_or xs k 0 ≡ d → ⊥) → Without d xs
 without_by_places d [] h = tt
 without_by_places d (x ∷ xs) h = (λ e. h 0 (omega arith) e, without_by_places d xs (λ k l e. h (suc k) (omega arith) e))
 
