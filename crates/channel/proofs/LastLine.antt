@@ -2,20 +2,15 @@
 use Rattle.std.proofs.Common.{◌≡◌, ℕ, zero, suc, ◌+◌, ◌-◌, ◌<◌, ◌≤◌, Bool, true, false, ◌&&◌, eqb, leb, ◌⊎◌, List, [], ◌∷◌, ◌++◌, length, get_or, take, drop, decimal, sym, refl, ap, ◌∙◌, subst, inl, inr, ⊎_elim, arith}
 use Rattle.std.proofs.str.Laws.{order}
 use Rattle.std.specs.Cmp.Lexicographic.{pointwise, same_text}
-use Rattle.std.proofs.lemmas.Bool.{false≢true, or_cases, eqb-true, and_from, and_parts, le-leb, lt-leb}
+use Rattle.std.specs.List.{between}
+use Rattle.std.proofs.lemmas.Slice.{between_to_end}
+use Rattle.std.proofs.lemmas.Bool.{and_left, and_right, false≢true, or_cases, eq-eqb, eqb-true, and_from, and_parts, le-leb, lt-leb}
 use Rattle.std.proofs.lemmas.List.{take-append-drop, append_assoc, length-append, length-take-le, take-append-le, append_cancel_right, get_or_append_left, get_or-append_right, take_at, drop_at, length-drop, get_or-drop}
 use Rattle.std.proofs.lemmas.Fmt.{digits_decimal, decimal_injective}
 use Rattle.text.proofs.Digits.{Figures, own}
 use Rattle.channel.specs.Faults.{BadOffset}
 use Rattle.channel.specs.Files.{line_front, most_bytes, sized, Last, Cut}
 use Rattle.channel.specs.Steps.{Closed, LineBegins}
-
-no_first : (a b : Bool) → a ≡ false → (a && b) ≡ false
-no_first a b e = rw e
-
-no_second : (a b : Bool) → b ≡ false → (a && b) ≡ false
-no_second true b e = e
-no_second false b e = refl
 
 no_break : (xs : List ℕ) → Figures xs → (k : ℕ) → k < length xs → get_or xs k 0 ≡ 10 → ⊥
 no_break [] f k h e = omega arith
@@ -67,17 +62,17 @@ module _ (file lines : List ℕ) (ends : file ≡ lines ++ 10 ∷ []) where
   long_lines = omega (arith, ap length ends, length-append lines (10 ∷ []))
 
   -- what was found is the last line
-  pub found : (at n : ℕ) → at ≤ length lines → drop at lines ≡ 64 ∷ decimal n → file ≡ take at file ++ 64 ∷ (decimal n ++ 10 ∷ [])
+  pub found : (at n : ℕ) → at ≤ length lines → between at (length lines) lines ≡ 64 ∷ decimal n → file ≡ take at file ++ 64 ∷ (decimal n ++ 10 ∷ [])
   found at n h left =
       let front : take at lines ≡ take at file = sym (take-append-le at lines (10 ∷ []) h) ∙ ap (take at) (sym ends) in
-      ends ∙ ap (λ xs. xs ++ 10 ∷ []) (sym (take-append-drop at lines) ∙ ap (λ xs. take at lines ++ xs) left ∙ ap (λ xs. xs ++ 64 ∷ decimal n) front) ∙ append_assoc (take at file) (64 ∷ decimal n) (10 ∷ [])
+      ends ∙ ap (λ xs. xs ++ 10 ∷ []) (sym (take-append-drop at lines) ∙ ap (λ xs. take at lines ++ xs) (sym (between_to_end lines at (length lines) (omega arith)) ∙ left) ∙ ap (λ xs. xs ++ 64 ∷ decimal n) front) ∙ append_assoc (take at file) (64 ∷ decimal n) (10 ∷ [])
 
   -- the last line, where it is lawful
-  pub last_there : (at n : ℕ) (body : List ℕ) → LineBegins file (length lines) at → Last file body n → drop at lines ≡ 64 ∷ decimal n
+  pub last_there : (at n : ℕ) (body : List ℕ) → LineBegins file (length lines) at → Last file body n → between at (length lines) lines ≡ 64 ∷ decimal n
   last_there at n body f last =
       let k : at ≡ length body = one_front file body n last at (subst (λ j. LineBegins file j at) long_lines f) in
       let whole : lines ≡ body ++ 64 ∷ decimal n = append_cancel_right lines (body ++ 64 ∷ decimal n) (10 ∷ []) (sym ends ∙ last.whole ∙ sym (append_assoc body (64 ∷ decimal n) (10 ∷ []))) in
-      ap (drop at) whole ∙ drop_at body (64 ∷ decimal n) at (sym k)
+      between_to_end lines at (length lines) (omega arith) ∙ ap (drop at) whole ∙ drop_at body (64 ∷ decimal n) at (sym k)
 
 -- a lawful last line is not told from a file without a newline at its end
 pub no_newline : (file body : List ℕ) (n : ℕ) → pointwise eqb (drop (length file - 1) file) (10 ∷ []) ≡ false → Last file body n → ⊥
@@ -87,20 +82,22 @@ no_newline file body n t last =
     let d : drop (length file - 1) file ≡ 10 ∷ [] = ap (drop (length file - 1)) whole ∙ drop_at (body ++ line) (10 ∷ []) (length file - 1) (omega (arith, ap length whole, length-append (body ++ line) (10 ∷ []))) in
     false≢true (sym t ∙ ap (λ xs. pointwise eqb xs (10 ∷ [])) d)
 
-pub fits_sized : (file : List ℕ) → (length file ≡ 0 → ⊥) → length file ≤ most_bytes → sized file ≡ true
-fits_sized file some few = and_from (leb 1 (length file)) (leb (length file) most_bytes) (le-leb 1 (length file) (omega arith)) (le-leb (length file) most_bytes few)
+pub fits_sized : (file : List ℕ) → false ≡ eqb (length file) 0 → length file ≤ most_bytes → sized file ≡ true
+fits_sized file e few =
+    let some : length file ≡ 0 → ⊥ = λ z. false≢true (e ∙ eq-eqb (length file) 0 z) in
+    and_from (leb 1 (length file)) (leb (length file) most_bytes) (le-leb 1 (length file) (omega arith)) (le-leb (length file) most_bytes few)
 
 pub not_sized : (file : List ℕ) → (length file ≡ 0) ⊎ (16384 < length file) → sized file ≡ false
-not_sized file (inl none) = no_first (leb 1 (length file)) (leb (length file) most_bytes) (lt-leb 1 (length file) (omega arith))
-not_sized file (inr many) = no_second (leb 1 (length file)) (leb (length file) most_bytes) (lt-leb (length file) most_bytes many)
+not_sized file (inl none) = and_left (leb 1 (length file)) (leb (length file) most_bytes) (lt-leb 1 (length file) (omega arith))
+not_sized file (inr many) = and_right (leb 1 (length file)) (leb (length file) most_bytes) (lt-leb (length file) most_bytes many)
 
 pub past_the_sign : (file : List ℕ) (at n : ℕ) → at ≤ length file → Last file (take at file) n → at < n → BadOffset file
 past_the_sign file at n within last h =
     let body = take at file in
-    record { body = body; n = n; last = last; bad = no_first (leb n (length body)) (line_front file n) (lt-leb n (length body) (omega (arith, length-take-le at file within))) }
+    record { body = body; n = n; last = last; bad = and_left (leb n (length body)) (line_front file n) (lt-leb n (length body) (omega (arith, length-take-le at file within))) }
 
 pub no_front : (file : List ℕ) (at n : ℕ) → Last file (take at file) n → line_front file n ≡ false → BadOffset file
-no_front file at n last f = record { body = take at file; n = n; last = last; bad = no_second (leb n (length (take at file))) (line_front file n) f }
+no_front file at n last f = record { body = take at file; n = n; last = last; bad = and_right (leb n (length (take at file))) (line_front file n) f }
 
 last_begins : (file body : List ℕ) (n : ℕ) → Last file body n → LineBegins file (length file - 1) (length body)
 last_begins file body n last = record { within = omega (arith, long file body n last); begins = last.begins; free = inside file body n last }

@@ -98,7 +98,7 @@ impl FileFault {
         }
     }
 
-    // The byte of the file that the fault points at.
+    // The byte of the file that the fault points at; 0 where it points at none, as a listing tells it.
     pub fn place(&self) -> usize
         ensures { result ≡ place_of self.now }
     {

@@ -8,10 +8,13 @@ use crate::fault::FileFault;
 use crate::summary::{Summary, summary_of};
 use std::alloc::{AllocError, Global};
 
+// A file has at most so many bytes.
+pub const MOST_BYTES: usize = 16384;
+
 // A listing's buffer has at least so many bytes.
 pub const LEAST_BUFFER: usize = 1024;
 
-// Why a listing is refused, and how long the line is that says so: 0 where none is written.
+// Why a listing is refused, and how many bytes of the buffer the line takes that says so.
 #[derive(Clone, Copy)]
 pub struct Refusal {
     pub fault: FileFault,

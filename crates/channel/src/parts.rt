@@ -4,10 +4,10 @@ ghost use Rattle.channel.specs.Files.{line_front};
 ghost use Rattle.channel.specs.Steps.{LineBegins, LastOr, PartsOr};
 
 use crate::fault::FormFault;
+use crate::listing::MOST_BYTES;
 use text::figures::number;
 
-pub(crate) const MOST_BYTES: usize = 16384;
-
+// An offset is below this: it has at most five figures.
 const OFFSETS: u32 = 100000;
 
 #[derive(Clone, Copy)]

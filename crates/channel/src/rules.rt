@@ -5,12 +5,9 @@ ghost use Rattle.channel.specs.Steps.{Closed, LineOr, RulesOr};
 
 use crate::cause::Cause;
 use crate::line::LineFault;
-use rule_reader::read_rule;
+use rule_reader::{MOST_RULES, read_rule};
 use std::alloc::Global;
 use text::lines::Lines;
-
-// A file has at most so many rules.
-const MOST_RULES: usize = 16;
 
 // One rule line, which begins at `front` behind so many others.
 fn read_line(heap: Global, line: &[u8], front: usize, laid: usize) -> Result<(), LineFault>
@@ -39,6 +36,7 @@ pub(crate) fn read_rules(heap: Global, rules: &[u8], offset: usize) -> Result<us
     requires inside { offset + length rules.now ≤ most_bytes }
     ensures { RulesOr offset rules.now result }
 {
+    // Counted by hand and not by `enumerate`: the count is the answer too.
     let mut laid = 0;
     for line in Lines::of(rules) {
         let front = offset + line.start;

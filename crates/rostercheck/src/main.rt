@@ -2,11 +2,11 @@
 #![tactic(auto)]
 
 use anyhow::anyhow;
-use channel::listing::{LEAST_BUFFER, listing};
+use channel::listing::{LEAST_BUFFER, MOST_BYTES, listing};
 use std::io::{Read, Write};
 
-// A file of more bytes than this is refused whatever the rest is, so no more is read.
-const ENOUGH: u64 = 16385;
+// A file of so many bytes is refused whatever the rest is, so no more is read.
+const ENOUGH: u64 = MOST_BYTES as u64 + 1;
 
 fn main(rt: HostRuntime) -> anyhow::Result<()> {
     let mut file = Vec::new(rt.alloc());
@@ -14,6 +14,7 @@ fn main(rt: HostRuntime) -> anyhow::Result<()> {
     let mut buffer = [0u8; LEAST_BUFFER];
     let length = match listing(rt.alloc(), &file, &mut buffer) {
         Ok(length) => length,
+        // Only want of memory has no number: it comes from three layers, and none of them tells a line.
         Err(refusal) if refusal.fault.number().is_some() => refusal.length,
         Err(_) => return Err(anyhow!("no memory")),
     };

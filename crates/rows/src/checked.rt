@@ -9,6 +9,7 @@ use rowtext::lines::read_rows;
 use rowtext::row::Row;
 use std::alloc::Global;
 
+// A call of its own: what the invariant asks is proved here, away from the struct.
 pub(crate) fn lawful_rows(heap: Global, text: &[u8]) -> Result<Vec<Row>, RowFault>
     ensures { MatchResult result
         (λ rows. Describes text.now (lines_of rows.items) × (vec_len rows ≤ most_rows) × GoesOn rows.items)

@@ -13,7 +13,7 @@ option_or_parts : (a b : Option ℕ) → option_or a b ≡ None → (a ≡ None)
 option_or_parts (Some p) b e = absurd (cc)
 option_or_parts None b e = (refl, e)
 
-pub none_beyond_target : (n at : ℕ) (ts : List ℕ) → targets_beyond n at ts ≡ None → AllByRecursion (λ t. t < n) ts
+none_beyond_target : (n at : ℕ) (ts : List ℕ) → targets_beyond n at ts ≡ None → AllByRecursion (λ t. t < n) ts
 none_beyond_target n at [] e = tt
 none_beyond_target n at (t ∷ ts) e =
     ⊎_elim
@@ -21,7 +21,7 @@ none_beyond_target n at (t ∷ ts) e =
     (λ h. let f = sym (ap (λ b. cond b (Some at) (targets_beyond n (at + length (with_comma t)) ts)) (le-leb n t h)) ∙ e in absurd (cc))
     (order t n)
 
-pub none_beyond : (n at : ℕ) (ls : List Line) → text_beyond n at ls ≡ None → AllByRecursion (Below n) ls
+none_beyond : (n at : ℕ) (ls : List Line) → text_beyond n at ls ≡ None → AllByRecursion (Below n) ls
 none_beyond n at [] e = tt
 none_beyond n at (l ∷ ls) e =
     let p = option_or_parts (line_beyond n at l) (text_beyond n (at + length (with_newline l)) ls) e in

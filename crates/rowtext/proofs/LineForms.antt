@@ -1,5 +1,5 @@
 -- One line: what each reading step adds to what has been read, and how a step that fails breaks the line.
-use Rattle.std.proofs.Common.{◌≡◌, ℕ, suc, ◌+◌, ◌-◌, ◌<◌, ◌≤◌, Bool, true, false, cond, leb, ◌⊎◌, List, [], ◌∷◌, ◌++◌, length, take, drop, Some, None, decimal, sym, refl, ap, ◌∙◌, subst, inl, inr, ⊎_elim, arith}
+use Rattle.std.proofs.Common.{◌≡◌, ℕ, suc, ◌+◌, ◌-◌, ◌<◌, ◌≤◌, Bool, true, false, cond, leb, ◌⊎◌, List, [], ◌∷◌, ◌++◌, length, take, drop, Some, None, Option, decimal, sym, refl, ap, ◌∙◌, subst, inl, inr, ⊎_elim, arith}
 use Rattle.std.proofs.lemmas.List.{flat_map_more, append_assoc, append-nil, length-append}
 use Rattle.rowtext.specs.Faults.{Broken, NoTarget, Stuck, bad_mark, bad_target, comma_ended, least_next, no_sign, targets_beyond, with_comma}
 use Rattle.rowtext.specs.Format.{Rising, most_rows, sign, targets_text}
@@ -48,7 +48,7 @@ pub targets_more : (rest left left' left'' : List ℕ) (ts : List ℕ) (t : ℕ)
 targets_more rest left left' left'' ts t e f g =
     e ∙ ap (λ xs. comma_ended ts ++ xs) (f ∙ ap (λ xs. decimal t ++ xs) g ∙ sym (append_assoc (decimal t) (44 ∷ []) left'')) ∙ sym (append_assoc (comma_ended ts) (with_comma t) left'') ∙ ap (λ xs. xs ++ left'') (flat_map_more with_comma [] ts t)
 
-pub targets_snoc : (ts : List ℕ) (t : ℕ) → targets_text (ts ++ t ∷ []) ≡ comma_ended ts ++ decimal t
+targets_snoc : (ts : List ℕ) (t : ℕ) → targets_text (ts ++ t ∷ []) ≡ comma_ended ts ++ decimal t
 targets_snoc [] t = refl
 targets_snoc (x ∷ []) t = sym (append_assoc (decimal x) (44 ∷ []) (decimal t)) ∙ ap (λ xs. xs ++ decimal t) (sym (append-nil (with_comma x)))
 targets_snoc (x ∷ y ∷ ts) t = ap (λ xs. decimal x ++ 44 ∷ xs) (targets_snoc (y ∷ ts) t) ∙ sym (append_assoc (decimal x) (44 ∷ []) (comma_ended (y ∷ ts) ++ decimal t)) ∙ sym (append_assoc (with_comma x) (comma_ended (y ∷ ts)) (decimal t))
@@ -80,10 +80,14 @@ broken_by_targets at at2 line rest left ms s e w v c p m =
     ⊎_elim inl
     (λ b. inr (subst (Broken at line) (sym (b.fault ∙ ap (λ k. Target (k + length (comma_ended b.targets))) p)) (bad_target s ms b.targets b.left (w ∙ ap (λ xs. sign s ∷ xs) (v ∙ ap (λ xs. ms ++ 62 ∷ xs) b.whole)) c b.rising b.none))) m
 
-pub targets_beyond_push : (n at : ℕ) (ts : List ℕ) (t : ℕ) → targets_beyond n at (ts ++ t ∷ []) ≡ option_or (targets_beyond n at ts) (cond (leb n t) (Some (at + length (comma_ended ts))) None)
+targets_beyond_push : (n at : ℕ) (ts : List ℕ) (t : ℕ) → targets_beyond n at (ts ++ t ∷ []) ≡ option_or (targets_beyond n at ts) (cond (leb n t) (Some (at + length (comma_ended ts))) None)
 targets_beyond_push n at [] t = ap (λ k. cond (leb n t) (Some k) None) (let z : at ≡ at + 0 = omega arith in z)
 targets_beyond_push n at (x ∷ ts) t =
     let k = at + length (with_comma x) in
     let same : k + length (comma_ended ts) ≡ at + length (comma_ended (x ∷ ts)) = omega (arith, length-append (with_comma x) (comma_ended ts)) in
     let more = targets_beyond_push n k ts t ∙ ap (λ j. option_or (targets_beyond n k ts) (cond (leb n t) (Some j) None)) same in
     elim (leb n x) as (λ b. cond b (Some at) (targets_beyond n k (ts ++ t ∷ [])) ≡ option_or (cond b (Some at) (targets_beyond n k ts)) (cond (leb n t) (Some (at + length (comma_ended (x ∷ ts)))) None)) [ true ↦ refl | false ↦ more ]
+
+-- one more target, which stands at `at`
+pub beyond_more : (n at0 at t : ℕ) (ts : List ℕ) (beyond late : Option ℕ) → beyond ≡ targets_beyond n at0 ts → at ≡ at0 + length (comma_ended ts) → late ≡ cond (leb n t) (Some at) None → option_or beyond late ≡ targets_beyond n at0 (ts ++ t ∷ [])
+beyond_more n at0 at t ts beyond late b far l = ap (option_or beyond) l ∙ (λ i. option_or (b i) (cond (leb n t) (Some (far i)) None)) ∙ sym (targets_beyond_push n at0 ts t)

@@ -1,5 +1,5 @@
 -- A whole text: lines are read one after another, and the first that breaks the form is the fault.
-use Rattle.std.proofs.Common.{◌≡◌, ℕ, ◌+◌, ◌-◌, ◌<◌, ◌≤◌, true, eqb, leb, List, [], ◌∷◌, ◌++◌, length, get_or, take, drop, Some, None, Ok, Option, sym, refl, ap, ◌∙◌, subst, ⊎_elim, arith}
+use Rattle.std.proofs.Common.{◌≡◌, ℕ, ◌+◌, ◌-◌, ◌<◌, ◌≤◌, Bool, true, false, cond, eqb, leb, List, [], ◌∷◌, ◌++◌, length, get_or, take, drop, Some, None, Ok, Option, sym, refl, ap, ◌∙◌, subst, ⊎_elim, arith}
 use Rattle.std.specs.Option.{option_or}
 use Rattle.std.specs.List.{AllByRecursion}
 use Rattle.std.proofs.str.Laws.{order}
@@ -29,6 +29,14 @@ module _ (text : List ℕ) (lawful : has_lines text ≡ true) where
   some_line [] e = absurd (omega (arith, last_byte, ap (λ xs. get_or xs (length xs - 1) 0) e))
   some_line (l ∷ ls) e = omega arith
 
+told : (b : Bool) (m n : ℕ) → cond b (Some m) None ≡ Some n → (b ≡ true) × (n ≡ m)
+told true m n e = (refl, cc)
+told false m n e = absurd (cc)
+
+-- a count is told of a lawful text alone, and it is that of its lines
+pub lawful_text : (text : List ℕ) (n : ℕ) → cond (has_lines text) (Some (newlines text)) None ≡ Some n → (has_lines text ≡ true) × (n ≡ newlines text)
+lawful_text text n = told (has_lines text) (newlines text) n
+
 -- what is read up to `at`: so many rows, and the first target not below n
 pub record ReadSoFar (text : List ℕ) (n at : ℕ) (rows : List Row) (beyond : Option ℕ) : Type 0 where
   pub whole : text ≡ text_of (lines_of rows) ++ drop at text
@@ -36,7 +44,7 @@ pub record ReadSoFar (text : List ℕ) (n at : ℕ) (rows : List Row) (beyond : 
   pub counted : newlines text ≡ length rows + newlines (drop at text)
   pub beyond_is : beyond ≡ text_beyond n 0 (lines_of rows)
 
-pub lines_more : (text left : List ℕ) (ls : List Line) (l : Line) (line after : List ℕ) → text ≡ text_of ls ++ left → left ≡ line ++ 10 ∷ after → line ≡ line_text l → text ≡ text_of (ls ++ l ∷ []) ++ after
+lines_more : (text left : List ℕ) (ls : List Line) (l : Line) (line after : List ℕ) → text ≡ text_of ls ++ left → left ≡ line ++ 10 ∷ after → line ≡ line_text l → text ≡ text_of (ls ++ l ∷ []) ++ after
 lines_more text left ls l line after e f g =
     e ∙ ap (λ xs. text_of ls ++ xs) (f ∙ ap (λ xs. xs ++ 10 ∷ after) g ∙ sym (append_assoc (line_text l) (10 ∷ []) after)) ∙ sym (append_assoc (text_of ls) (with_newline l) after) ∙ ap (λ xs. xs ++ after) (flat_map_more with_newline [] ls l)
 
@@ -48,7 +56,7 @@ option_or_assoc : (a b c : Option ℕ) → option_or a (option_or b c) ≡ optio
 option_or_assoc (Some p) b c = refl
 option_or_assoc None b c = refl
 
-pub text_beyond_push : (n at : ℕ) (ls : List Line) (l : Line) → text_beyond n at (ls ++ l ∷ []) ≡ option_or (text_beyond n at ls) (line_beyond n (at + length (text_of ls)) l)
+text_beyond_push : (n at : ℕ) (ls : List Line) (l : Line) → text_beyond n at (ls ++ l ∷ []) ≡ option_or (text_beyond n at ls) (line_beyond n (at + length (text_of ls)) l)
 text_beyond_push n at [] l = option_or_none (line_beyond n at l) ∙ ap (λ k. line_beyond n k l) (let z : at ≡ at + 0 = omega arith in z)
 text_beyond_push n at (x ∷ ls) l =
     let k = at + length (with_newline x) in

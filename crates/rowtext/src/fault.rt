@@ -36,7 +36,7 @@ impl RowFault {
         }
     }
 
-    // The byte of the text that the fault points at.
+    // The byte of the text that the fault points at; 0 where it points at none, as a listing tells it.
     pub fn place(&self) -> usize
         ensures { result ≡ place_of self.now }
     {

@@ -1,7 +1,8 @@
 // A whole row text, line by line.
-ghost use Rattle.std.specs.Prelude.{◌≡◌};
+ghost use Rattle.std.specs.Prelude.{◌≡◌, if◌then◌else◌, Some, None};
 ghost use Rattle.rowtext.specs.Claims.{RowTextHasOneAnswer};
 ghost use Rattle.rowtext.specs.Faults.{Reads, has_lines};
+ghost use Rattle.text.specs.Pieces.{newlines};
 
 use crate::fault::RowFault;
 use crate::reader::read_row;
@@ -10,21 +11,19 @@ use std::alloc::Global;
 use text::lines::Lines;
 use text::pieces::count_lines;
 
-// Is the text ended by byte 10, with 1 to 64 lines?
-fn has_lines(text: &[u8]) -> bool
-    ensures { result ≡ has_lines text.now }
+// How many lines the text has, if it is ended by byte 10 and they are 1 to 64.
+fn lawful_count(text: &[u8]) -> Option<usize>
+    ensures { result ≡ (if has_lines text.now then Some (newlines text.now) else None) }
 {
-    text.last() == Some(&b'\n') && count_lines(text) <= MOST_ROWS
+    let count = count_lines(text);
+    (text.last() == Some(&b'\n') && count <= MOST_ROWS).then_some(count)
 }
 
 // The rows that the text describes, or its first fault.
 pub fn read_rows(heap: Global, text: &[u8]) -> Result<Vec<Row>, RowFault>
     ensures { Reads text.now result }
 {
-    if !has_lines(text) {
-        return Err(RowFault::Lines);
-    }
-    let count = count_lines(text);
+    let count = lawful_count(text).ok_or(RowFault::Lines)?;
     let mut rows = Vec::new(heap);
     let mut beyond = None;
     for line in Lines::of(text) {

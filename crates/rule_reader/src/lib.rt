@@ -18,6 +18,9 @@ use std::alloc::Global;
 // The most bytes that a rule text may have.
 pub const LONGEST: usize = 255;
 
+// The most rules that a file or a roster may have.
+pub const MOST_RULES: usize = 16;
+
 // The rule that `text` means. `reads` says which tree comes back and that a refusal is the one that
 // the text earns; `exactly` says that a text is taken if and only if it is a rule of lawful length.
 // Memory may run out before a fault further on in the text is met.

@@ -6,9 +6,11 @@ use Rattle.std.specs.List.{AllWithin, HoldsAt}
 use Rattle.std.specs.Prelude.{◌≢◌}
 use Rattle.std.proofs.str.Laws.{order}
 use Rattle.text.proofs.Digits.{Figures, own}
+use Rattle.std.specs.declared.ops.Range.{Range}
+use Rattle.text.specs.Lines.{IsLine}
 use Rattle.text.specs.Pieces.{PieceEnd, EndsHere, Without}
 
-pub without_by_places : (d : ℕ) (xs : List ℕ) → ((k : ℕ) → k < length xs → get_or xs k 0 ≡ d → ⊥) → Without d xs
+without_by_places : (d : ℕ) (xs : List ℕ) → ((k : ℕ) → k < length xs → get_or xs k 0 ≡ d → ⊥) → Without d xs
 without_by_places d [] h = tt
 without_by_places d (x ∷ xs) h = (λ e. h 0 (omega arith) e, without_by_places d xs (λ k l e. h (suc k) (omega arith) e))
 
@@ -80,3 +82,7 @@ ends_at_first d text at None l h = record {
   free = λ k a b e. let j : at + (k - at) ≡ k = omega arith in h (k - at) 0 (omega arith) (omega (arith, length-drop at text)) (get_or-drop at text (k - at) 0 ∙ ap (λ i. get_or text i 0) j ∙ e);
   stops = λ k. absurd (omega (arith, length-drop at text));
 }
+
+-- a line of a text is one of the same text
+pub same_line : {text text' : List ℕ} {at behind : ℕ} {line : Range ℕ} → text' ≡ text → IsLine text' at behind line → IsLine text at behind line
+same_line {at = at} {behind = behind} {line = line} e is = subst (λ t. IsLine t at behind line) e is

@@ -15,7 +15,7 @@ read_on n (c ∷ cs) = read_on (n * 10 + (c - 48)) cs
 pub own : IsNumeralModel Figures (read_on 0)
 own = numerals_by_fold _ (search rules) read_on (search rules)
 
-pub read_on_ge : (n : ℕ) (ds : List ℕ) → n ≤ read_on n ds
+read_on_ge : (n : ℕ) (ds : List ℕ) → n ≤ read_on n ds
 read_on_ge n [] = omega arith
 read_on_ge n (c ∷ cs) = omega (arith, read_on_ge (n * 10 + (c - 48)) cs)
 

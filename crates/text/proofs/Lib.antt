@@ -1,3 +1,4 @@
 pub mod Digits
 pub mod Newlines
 pub mod Cuts
+pub mod Written

@@ -1,5 +1,7 @@
 // The readings of units, path parts and rules, which call each other as the grammar does. Each takes
-// what it can, and stands behind it; a refusal is at the place where no rule could go on.
+// what it can, and stands behind it; a refusal is at the place where no rule could go on. `onward` ties the
+// reader before a step to that after it, which no invariant of one can; `Ended` holds behind a rule only, so
+// it is asked and no invariant.
 ghost use Rattle.std.specs.Prelude.{◌≡◌, [], ◌∷◌, MatchResult};
 ghost use Rattle.rule_reader.specs.Ahead.{ahead, Onward, HaltsAhead};
 ghost use Rattle.rule_reader.specs.Chains.{IsOperand, IsChain, OperandEnded};
@@ -25,7 +27,7 @@ impl<'a> Reader<'a> {
         Ok(rule)
     }
 
-    // Terms joined by |, each of them units joined by &.
+    // Terms joined by |, each of them units joined by &. A term is chain(And).
     #[cycle(reading)]
     fn rule(&mut self) -> Result<Rule, RuleFault>
         ensures onward { Onward self.old self.new }
@@ -49,7 +51,8 @@ impl<'a> Reader<'a> {
         Ok(left)
     }
 
-    // What `op` joins: & units, | terms.
+    // What `op` joins: & units, | terms. A match and no closure: one that calls the reader again would stand in
+    // the cycle and have no contract.
     #[cycle(reading)]
     fn operand(&mut self, op: Connective) -> Result<Rule, RuleFault>
         ensures onward { Onward self.old self.new }

@@ -22,13 +22,11 @@ pub returns-in_err-at : goal.returns-in_err-at
 returns-in_err-at c =
     let p = err_from_is_err_and c.from_residual.result c.from_residual.ensures.1 in
     let file = c.args.file.now in
-    let some = λ (z : length file ≡ 0). false≢true (sym c.if-is_empty.false ∙ c.is_empty.ensures ∙ eq-eqb (length file) 0 z) in
     let e : c.in_err-at.field-0.0 ≡ LastLine = same_error c.last_line.result c.in_err-at.field-0.0 LastLine c.in_err-at.ensures.ok_part c.in_err-at.ensures.value in
-    rw (p.1, p.2, e) (bad_last_line (fits_sized file some (omega arith)) (subst (LastOr file) c.in_err-at.ensures.ok_part c.last_line.ensures))
+    rw (p.1, p.2, e) (bad_last_line (fits_sized file (sym c.if-is_empty.false ∙ c.is_empty.ensures) (omega arith)) (subst (LastOr file) c.in_err-at.ensures.ok_part c.last_line.ensures))
 
 pub returns-then-offset-at : goal.returns-then-offset-at
 returns-then-offset-at c =
     let file = c.args.file.now in
-    let some = λ (z : length file ≡ 0). false≢true (sym c.if-is_empty.false ∙ c.is_empty.ensures ∙ eq-eqb (length file) 0 z) in
     let told = subst (LastOr file) c.in_ok-at.ensures.ok_part c.last_line.ensures in
-    bad_offset (fits_sized file some (omega arith)) (elim c.then-offset-at.branch [ then-offset-at-via-then-offset-at w ↦ past_the_sign file c.in_ok-at.at c.in_ok-at.offset told.0 told.1 w.if-offset-at.true | then-offset-at-via-else-offset-at+then-not-is_line_front w ↦ no_front file c.in_ok-at.at c.in_ok-at.offset told.1 (sym w.if-not-is_line_front.ensures) ])
+    bad_offset (fits_sized file (sym c.if-is_empty.false ∙ c.is_empty.ensures) (omega arith)) (elim c.then-offset-at.branch [ then-offset-at-via-then-offset-at w ↦ past_the_sign file c.in_ok-at.at c.in_ok-at.offset told.0 told.1 w.if-offset-at.true | then-offset-at-via-else-offset-at+then-not-is_line_front w ↦ no_front file c.in_ok-at.at c.in_ok-at.offset told.1 (sym w.if-not-is_line_front.ensures) ])

@@ -17,7 +17,7 @@ pub returns-in_err-marks : goal.returns-in_err-marks
 returns-in_err-marks c =
     let p = err_from_is_err_and c.from_residual-in_err-marks.result c.from_residual-in_err-marks.ensures.1 in
     let signed = c.in_ok-start.ensures in
-    let far = went_on c.args.self.now.text.now c.sign.new.self.text.now c.args.self.now.at c.sign.new.self.at (sign c.in_ok-start.start ∷ []) (ap (λ r. r.now) signed.same) c.args.self.now.within c.sign.new.self.within signed.took in
+    let far = went_on _ _ _ _ (sign c.in_ok-start.start ∷ []) (ap (λ r. r.now) signed.same) c.args.self.now.within c.sign.new.self.within signed.took in
     rw (p.1, p.2) (broken_by_marks _ _ _ _ c.in_ok-start.start _ signed.took far c.in_err-marks.ensures.took)
 
 pub returns-in_err-targets : goal.returns-in_err-targets
@@ -26,8 +26,8 @@ returns-in_err-targets c =
     let signed = c.in_ok-start.ensures in
     let marked = c.in_ok-marks.ensures in
     let ms = vec_items c.in_ok-marks.marks in
-    let far = went_on c.args.self.now.text.now c.sign.new.self.text.now c.args.self.now.at c.sign.new.self.at (sign c.in_ok-start.start ∷ []) (ap (λ r. r.now) signed.same) c.args.self.now.within c.sign.new.self.within signed.took in
-    let further = went_on c.sign.new.self.text.now c.marks.new.self.text.now c.sign.new.self.at c.marks.new.self.at (ms ++ 62 ∷ []) (ap (λ r. r.now) marked.same) c.sign.new.self.within c.marks.new.self.within (marked.took.0 ∙ sym (append_assoc ms (62 ∷ []) (drop c.marks.new.self.at c.marks.new.self.text.now))) in
+    let far = went_on _ _ _ _ (sign c.in_ok-start.start ∷ []) (ap (λ r. r.now) signed.same) c.args.self.now.within c.sign.new.self.within signed.took in
+    let further = went_on _ _ _ _ (ms ++ 62 ∷ []) (ap (λ r. r.now) marked.same) c.sign.new.self.within c.marks.new.self.within (marked.took.0 ∙ sym (append_assoc ms (62 ∷ []) (drop c.marks.new.self.at c.marks.new.self.text.now))) in
     rw (p.1, p.2) (broken_by_targets c.args.self.now.at c.marks.new.self.at _ _ _ ms c.in_ok-start.start _ signed.took marked.took.0 marked.took.1 (omega (arith, far, further, length_push ms 62)) c.in_err-targets.ensures)
 
 pub returns : goal.returns
@@ -37,8 +37,8 @@ returns c =
     let aimed = c.in_ok-targets.ensures in
     let ms = vec_items c.in_ok-marks.marks in
     let ts = vec_items c.in_ok-targets.targets in
-    let far = went_on c.args.self.now.text.now c.sign.new.self.text.now c.args.self.now.at c.sign.new.self.at (sign c.in_ok-start.start ∷ []) (ap (λ r. r.now) signed.same) c.args.self.now.within c.sign.new.self.within signed.took in
-    let further = went_on c.sign.new.self.text.now c.marks.new.self.text.now c.sign.new.self.at c.marks.new.self.at (ms ++ 62 ∷ []) (ap (λ r. r.now) marked.same) c.sign.new.self.within c.marks.new.self.within (marked.took.0 ∙ sym (append_assoc ms (62 ∷ []) (drop c.marks.new.self.at c.marks.new.self.text.now))) in
+    let far = went_on _ _ _ _ (sign c.in_ok-start.start ∷ []) (ap (λ r. r.now) signed.same) c.args.self.now.within c.sign.new.self.within signed.took in
+    let further = went_on _ _ _ _ (ms ++ 62 ∷ []) (ap (λ r. r.now) marked.same) c.sign.new.self.within c.marks.new.self.within (marked.took.0 ∙ sym (append_assoc ms (62 ∷ []) (drop c.marks.new.self.at c.marks.new.self.text.now))) in
     let here : c.marks.new.self.at ≡ c.args.self.now.at + 1 + length ms + 1 = omega (arith, far, further, length_push ms 62) in (
       record { marks = marked.took.1; targets = aimed.1; some = aimed.2 },
       signed.took ∙ ap (λ xs. sign c.in_ok-start.start ∷ xs) (marked.took.0 ∙ ap (λ xs. ms ++ 62 ∷ xs) aimed.0),
