@@ -110,6 +110,7 @@ impl StateSet {
         )
     }
 
+    #[tactic(auto, using(crate::proofs::Bits::bit_of_and_not))]
     pub fn minus(self, other: StateSet) -> StateSet
         ensures { (s : ℕ) → member result s ≡ (member self s && not (member other s)) }
     {
