@@ -129,7 +129,7 @@ impl StateSet {
         self.intersect(*other).next(0).is_some()
     }
 
-    // The lowest member at or above `from`.
+    // The lowest member at or above `from`. Promised for any `from`; this code asks from 0.
     pub fn next(&self, from: usize) -> Option<usize>
         ensures { MatchOption result ((i : ℕ) → from ≤ i → member self.now i ≡ false) (λ t. (t < state_limit) × LowestFrom (member self.now) from t) }
     {
