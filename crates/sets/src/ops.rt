@@ -110,6 +110,7 @@ impl StateSet {
         )
     }
 
+    #[tactic(auto, using(crate::proofs::Bits::bit_of_and_not))]
     pub fn minus(self, other: StateSet) -> StateSet
         ensures { (s : ℕ) → member result s ≡ (member self s && not (member other s)) }
     {
@@ -128,7 +129,7 @@ impl StateSet {
         self.intersect(*other).next(0).is_some()
     }
 
-    // The lowest member at or above `from`.
+    // The lowest member at or above `from`. Promised for any `from`; this code asks from 0.
     pub fn next(&self, from: usize) -> Option<usize>
         ensures { MatchOption result ((i : ℕ) → from ≤ i → member self.now i ≡ false) (λ t. (t < state_limit) × LowestFrom (member self.now) from t) }
     {
