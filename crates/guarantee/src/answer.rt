@@ -1,7 +1,8 @@
 // What a try and a settle answer.
 use ctl::Verdict;
 
-// The verdict at the bound that was tried, and the looks that it took.
+// The verdict at the bound that was tried, and the looks that it took. A type of its own beside the evaluator's
+// judgement, which this crate does not see: a record answers a try too.
 #[derive(Clone, Copy, PartialEq, Eq, Debug)]
 pub struct Tried {
     pub verdict: Verdict,

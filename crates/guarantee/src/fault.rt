@@ -59,7 +59,7 @@ impl RosterFault {
         }
     }
 
-    // The place in a rule text that the refusal points at; 0 where it points at none.
+    // The place in a rule text that the refusal points at; 0 where it points at none, as a listing tells it.
     pub fn place(&self) -> usize
         ensures { result ≡ place self.now }
     {
@@ -71,6 +71,7 @@ impl RosterFault {
 }
 
 // These conversions are written by hand: contracts say which refusal `?` makes, and a derived one says nothing of it.
+// A rule's fault is carried whole, its want of memory too; where that is to be the roster's own, lay says so itself.
 impl From<RuleFault> for RosterFault {
     ghost from_gives = { λ e r. r ≡ Rule e };
 

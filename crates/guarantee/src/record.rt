@@ -19,7 +19,7 @@ pub struct Record {
 }
 
 impl Record {
-    // The record of a rule that was never tried.
+    // The record of a rule that was never tried. No derived Default: a clause names what it gives.
     pub fn new() -> Record
         ensures { result ≡ no_record }
     {

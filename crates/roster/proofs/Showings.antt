@@ -1,5 +1,5 @@
 -- A path is shown from the lowest start that has one.
-use Rattle.std.proofs.Common.{◌≡◌, ℕ, suc, ◌<◌, ◌≤◌, Bool, true, false, List, take, sym, ap, ◌∙◌, subst, arith, ◌+◌, Option, Some, ⊎_elim}
+use Rattle.std.proofs.Common.{◌≡◌, ℕ, suc, ◌<◌, ◌≤◌, Bool, true, List, take, sym, ap, ◌∙◌, subst, arith, ◌+◌, Option, Some, ⊎_elim}
 use mathlib.Core.Bool.{false≢true}
 use mathlib.Core.Path.{fun_ext}
 use Rattle.std.proofs.lemmas.Bool.{cases_lt}
@@ -24,9 +24,6 @@ module _ (m : Meaning) (x : PathPart) (k : ℕ) where
   shown_here s before mid after st same none w =
       let P : List ℕ → Type 0 = λ b. Written m x k s b after in
       (s, record { here = (st, (take (suc k) after, w.path)); least = none }, subst P same w)
-
-  pub no_start_no_path : (s : ℕ) → Starts m s ≡ false → StartShown m x k s → ⊥
-  no_start_no_path s e p = false≢true (sym e ∙ p.0)
 
   pub no_witness_no_path : (C D : ℕ → Bool) (s room limit : ℕ) (why : NoWitness) → ((u : ℕ) → C u ≡ D u) → k < room → parts_cost m D x k ≤ limit → Refused m C x k s room limit why
       → StartShown m x k s → ⊥

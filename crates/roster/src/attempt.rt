@@ -17,7 +17,7 @@ pub const HIGHEST: u16 = 255;
 
 impl Laid {
     // The verdict on the rule at a bound by evaluation; refused where it costs more looks than the limit.
-    // Table, bound and limit stay three parameters: `judge` takes them one by one.
+    // The table is the book's, bound and limit are the call's.
     #[tactic(auto, using(crate::proofs::Negating::negates))]
     pub(crate) fn evaluate(
         &self,

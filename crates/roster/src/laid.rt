@@ -19,7 +19,8 @@ pub struct Laid {
     pub(crate) said: Record,
 }
 
-// The rules laid, by their numbers. No record is handed out to be changed: one at a time is changed in place.
+// The rules laid, by their numbers. No record is handed out to be changed: one at a time is changed in place. No
+// `Model` of it as a list: nobody outside this crate sees it as a value.
 #[derive(Drop)]
 pub struct Records {
     pub(crate) items: Vec<Laid>,

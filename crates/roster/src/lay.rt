@@ -12,11 +12,8 @@ use crate::book::{Book, Roster};
 use crate::laid::{Laid, Trees};
 use guarantee::{Record, RosterFault};
 use rule::RuleFault;
-use rule_reader::read_rule;
+use rule_reader::{MOST_RULES, read_rule};
 use std::alloc::Global;
-
-// How many rules may be laid.
-pub const MOST: usize = 16;
 
 // The refusal of a text; want of memory is the roster's own, so this is not the `From` of a rule's fault, which
 // carries every fault whole.
@@ -45,7 +42,7 @@ impl Book {
         ensures { LaysOrWantsMemory (opened (model_in self.old) (laid_in self.old)) text.now result (opened (model_in self.new) (laid_in self.new)) }
     {
         let number = self.records.len();
-        if number >= MOST {
+        if number >= MOST_RULES {
             return Err(RosterFault::Full);
         }
         let trees = read_trees(heap, text)?;

@@ -1,4 +1,5 @@
-// What negation makes of each operator.
+// What negation makes of each operator. A trait, since the operators are types of the logic's crate, and a method
+// of their own cannot stand here.
 ghost use Rattle.std.specs.Prelude.{◌≡◌, refl};
 ghost use Rattle.ctl.specs.Formula.{opposite_quantifier, opposite_connective, opposite_unary, opposite_binary};
 ghost use Rattle.ctl.specs.declared.Quantifier.TheVariants.{All, Exists};

@@ -17,6 +17,7 @@ pub enum Sign {
     Unary(Unary),
     Binary(Binary),
     Space,
+    // A case and no None: what a reader peeks at is an Option already, for the text's end.
     Other,
 }
 

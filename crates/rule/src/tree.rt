@@ -7,7 +7,8 @@ use crate::opposite::Opposite;
 use ctl::{Binary, Connective, Quantifier, Unary};
 use std::alloc::{AllocError, Global};
 
-// A rule: 0 or 1; a letter that a state carries (true) or lacks (false), by its byte; two rules
+// A rule: 0 or 1; a letter that a state carries (true) or lacks (false), by its byte: a bool, as a model's
+// answer that it is compared with; two rules
 // joined; a path part under A or E.
 #[cycle(rule)]
 #[derive(Drop)]

@@ -26,7 +26,7 @@ const RULES: u32 = 3;
 const BOUNDS: u16 = 6;
 
 // What was compared, and how often the two differed.
-#[derive(Drop)]
+#[derive(Default, Drop)]
 struct Tally {
     models: u32,
     rules: u32,
@@ -83,12 +83,7 @@ fn try_model(heap: Global, random: &mut Random, tally: &mut Tally) -> anyhow::Re
 
 fn main(rt: HostRuntime) -> anyhow::Result<()> {
     let mut random = Random(88172645463325252);
-    let mut tally = Tally {
-        models: 0,
-        rules: 0,
-        bounds: 0,
-        differences: 0,
-    };
+    let mut tally = Tally::default();
     for _ in 0..MODELS {
         try_model(rt.alloc(), &mut random, &mut tally)?;
     }

@@ -16,7 +16,7 @@ impl Random {
         x
     }
 
-    // A number below n; 0 if n is 0.
+    // A number below n; 0 if n is 0, so that callers need not show that it is not.
     pub fn below(&mut self, n: usize) -> usize
         ensures { 0 < n → result < n }
     {
