@@ -1,9 +1,9 @@
 -- Rule lines: they are read one after another, and the rules part has one answer.
-use Rattle.std.proofs.Common.{◌≡◌, ℕ, suc, ◌+◌, ◌-◌, ◌<◌, ◌≤◌, List, [], ◌∷◌, ◌++◌, length, take, drop, sym, refl, ap, ◌∙◌, subst, ⊎_elim, arith}
-use Rattle.std.specs.List.{flat_map, AllByRecursion}
+use Rattle.std.proofs.Common.{◌≡◌, ℕ, ◌+◌, ◌-◌, ◌<◌, ◌≤◌, List, [], ◌∷◌, ◌++◌, length, take, drop, sym, refl, ap, ◌∙◌, subst, ⊎_elim, arith}
+use Rattle.std.specs.List.{flat_map}
 use Rattle.std.proofs.slice.Lists.{all_by_recursion_push}
 use Rattle.std.proofs.str.Laws.{order}
-use Rattle.std.proofs.lemmas.List.{append_assoc, append-nil, drop_all, flat_map_more, length-append, length_push}
+use Rattle.std.proofs.lemmas.List.{append_assoc, append-nil, drop_all, flat_map_more, length_push}
 use Rattle.rule.proofs.Earned.{earned_is_unlawful, one_fault}
 use Rattle.rule.specs.Faults.{Sized}
 use Rattle.rule.specs.Grammar.{Lawful}

@@ -2,7 +2,6 @@ use Rattle.std.proofs.Common.{◌≤◌, eqb, [], ◌∷◌, length, take, sym, 
 use Rattle.std.specs.Cmp.Lexicographic.{pointwise}
 use Rattle.std.proofs.lemmas.Bool.{false≢true}
 use Rattle.std.proofs.lemmas.List.{length-take-le}
-use Rattle.std.proofs.lemmas.Slice.{between_to_end}
 use Rattle.channel.specs.Files.{line_front}
 use Rattle.channel.proofs.LastLine.{at_first, found, last_there, no_newline, stripped}
 use Rattle.channel.proofs.parts.last_line.Goals as goal

@@ -1,4 +1,4 @@
-use Rattle.std.proofs.Common.{length, sym}
+use Rattle.std.proofs.Common.{sym}
 use Rattle.std.proofs.lemmas.Result.{err_from_is_err_and}
 use Rattle.channel.proofs.LastLine.{rules_closed}
 use Rattle.channel.proofs.OneFile.{deserved_rows, deserved_rules, deserved_start}

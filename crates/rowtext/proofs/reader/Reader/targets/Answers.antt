@@ -1,8 +1,7 @@
-use Rattle.std.proofs.Common.{◌≡◌, ◌+◌, cond, leb, [], ◌∷◌, ◌++◌, length, drop, Some, None, vec_items, decimal, sym, refl, ap, ◌∙◌, subst, inr, add-one, arith}
+use Rattle.std.proofs.Common.{◌≡◌, ◌+◌, [], ◌∷◌, ◌++◌, length, drop, vec_items, decimal, sym, refl, ap, ◌∙◌, subst, inr, add-one, arith}
 use Rattle.std.proofs.lemmas.List.{length_push, drop_all}
 use Rattle.std.proofs.lemmas.Slice.{pushed}
 use Rattle.std.proofs.lemmas.Result.{err_from_is_err_and}
-use Rattle.std.specs.Option.{option_or}
 use Rattle.rowtext.proofs.LineForms.{beyond_more, broken_targets_at, least_next_push, rising_push, targets_end, targets_more}
 use Rattle.rowtext.specs.Faults.{comma_ended, least_next, targets_beyond}
 use Rattle.rowtext.specs.Format.{Rising, targets_text}
