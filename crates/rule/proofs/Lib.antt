@@ -1,4 +1,3 @@
-pub mod Sizes
 pub mod Trees
 pub mod Walk
 pub mod Takes
