@@ -60,12 +60,14 @@ def functions():
                 continue
             start = row
             closing = match.group(1) + "}"
-            while row < len(lines) and not (lines[row].startswith(closing) or lines[row].rstrip().endswith("{}")
-                                            or lines[row].rstrip().endswith(";") and row > start and ")" in lines[row]
-                                            and not lines[row].startswith(match.group(1) + "    " * 2)):
-                row += 1
-                if row - start > 400:
+            opened = False
+            while row < len(lines):
+                opened = opened or lines[row].rstrip().endswith("{")
+                if lines[row].startswith(closing) or lines[row].rstrip().endswith("{}"):
                     break
+                if not opened and lines[row].rstrip().endswith(";"):
+                    break  # a declaration in a trait
+                row += 1
             yield Fn(path, start + 1, "\n".join(lines[start:row + 1]))
             row += 1
 
