@@ -46,7 +46,7 @@ pub enum Layer {
 }
 
 impl Layer {
-    // The layer's word in a refused line.
+    // The layer's word in a refused line. Beside `Display`, which gives the same: it is a public promise of its own.
     pub fn word(&self) -> &'static str
         ensures { result.now ≡ word self.now }
     {

@@ -14,7 +14,8 @@ pub const MOST_BYTES: usize = 16384;
 // A listing's buffer has at least so many bytes.
 pub const LEAST_BUFFER: usize = 1024;
 
-// Why a listing is refused, and how many bytes of the buffer the line takes that says so.
+// Why a listing is refused, and how many bytes of the buffer the line takes that says so: 0 where none is
+// written, and 0 is that count.
 #[derive(Clone, Copy)]
 pub struct Refusal {
     pub fault: FileFault,

@@ -36,7 +36,7 @@ pub(crate) fn read_rules(heap: Global, rules: &[u8], offset: usize) -> Result<us
     requires inside { offset + length rules.now ≤ most_bytes }
     ensures { RulesOr offset rules.now result }
 {
-    // Counted by hand and not by `enumerate`: the count is the answer too.
+    // Counted by hand and not by `enumerate`: the count is the answer too, and would be counted twice.
     let mut laid = 0;
     for line in Lines::of(rules) {
         let front = offset + line.start;

@@ -5,6 +5,7 @@ use rowtext::fault::RowFault;
 use std::alloc::{AllocError, Global};
 use std::test::Fail;
 
+// By number and place and not by the fault, so that `number` and `place` are tried too.
 struct Refused {
     text: &'static str,
     number: u8,
@@ -204,7 +205,8 @@ const REFUSED: [Refused; 38] = [
     },
 ];
 
-// The number and the place that a text is refused with, if it is.
+// The number and the place that a text is refused with, if it is. As in rule_cases, of another fault: a trait for
+// `number` and `place` would serve these two functions alone.
 fn answer(heap: Global, text: &[u8]) -> Result<Option<(u8, usize)>, Fail> {
     let mut table = RowModel::new(heap)?;
     match table.fill(heap, text) {

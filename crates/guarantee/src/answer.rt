@@ -2,7 +2,8 @@
 use ctl::Verdict;
 
 // The verdict at the bound that was tried, and the looks that it took. A type of its own beside the evaluator's
-// judgement, which this crate does not see: a record answers a try too.
+// judgement, which this crate does not see: a record answers a try too, and `ctl`,
+// which both see, speaks of verdicts and of no call.
 #[derive(Clone, Copy, PartialEq, Eq, Debug)]
 pub struct Tried {
     pub verdict: Verdict,

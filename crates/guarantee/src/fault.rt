@@ -59,7 +59,7 @@ impl RosterFault {
         }
     }
 
-    // The place in a rule text that the refusal points at; 0 where it points at none, as a listing tells it.
+    // The place in a rule text that the refusal points at; 0 where it points at none, as `RuleFault::place` has it.
     pub fn place(&self) -> usize
         ensures { result ≡ place self.now }
     {

@@ -19,7 +19,8 @@ pub struct Record {
 }
 
 impl Record {
-    // The record of a rule that was never tried. No derived Default: a clause names what it gives.
+    // The record of a rule that was never tried. No Default: a derived one says
+    // nothing to a clause, and one written out is no shorter than this.
     pub fn new() -> Record
         ensures { result ≡ no_record }
     {

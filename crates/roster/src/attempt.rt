@@ -17,7 +17,8 @@ pub const HIGHEST: u16 = 255;
 
 impl Laid {
     // The verdict on the rule at a bound by evaluation; refused where it costs more looks than the limit.
-    // The table is the book's, bound and limit are the call's.
+    // The table is the book's, bound and limit are the call's. Want of looks and the judgement are turned into the
+    // roster's own here and by no From: both types are of crates that do not see each other.
     #[tactic(auto, using(crate::proofs::Negating::negates))]
     pub(crate) fn evaluate(
         &self,

@@ -40,7 +40,8 @@ impl Roster {
         self.book.as_ref().ok_or(RosterFault::Blank)
     }
 
-    // The same, to be changed; what is lent is followed through a `match`, and not through `ok_or`.
+    // The same, to be changed: one function cannot lend both ways. What is lent is followed through a `match`, and
+    // not through `ok_or`.
     pub(crate) fn opened_mut(&mut self) -> Result<&mut Book, RosterFault>
         ensures* writes_back { sem 𝓛 (LendsBook self.entry result) }
         ensures value { MatchResult result (λ b. self.old.book ≡ Some b.now) (λ e. (e ≡ Blank) × (self.old.book ≡ None)) }

@@ -43,6 +43,7 @@ fn root_shows(rule: &Rule, verdict: Verdict) -> bool
     }
 }
 
+// Table, bound, limit and buffer stay parameters: the table is the book's, the others are the call's own.
 impl Laid {
     // Refuses a path of the rule into a buffer of `room` bytes, for the first reason that there is.
     fn check_path(

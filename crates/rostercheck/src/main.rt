@@ -11,7 +11,7 @@ const ENOUGH: u64 = MOST_BYTES as u64 + 1;
 fn main(rt: HostRuntime) -> anyhow::Result<()> {
     let mut file = Vec::new(rt.alloc());
     rt.stdin().take(ENOUGH).read_to_end(&mut file)?;
-    let mut buffer = [0u8; LEAST_BUFFER];
+    let mut buffer = [0u8; LEAST_BUFFER]; // lent to the listing, which asks for so many bytes
     let length = match listing(rt.alloc(), &file, &mut buffer) {
         Ok(length) => length,
         // Only want of memory has no number: it comes from three layers, and none of them tells a line.

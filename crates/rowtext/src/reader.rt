@@ -10,11 +10,13 @@ use text::pieces::piece_end;
 
 // The text up to a line's end, and how far it is read: places are those of the whole text, and the
 // steps count `at` themselves, since a fault tells it. `same` is no fact of a reader: it ties its text
-// before a step to that after it.
+// before a step to that after it. The count of lines is no field: each step would have to say that it
+// stays. It shares its fields with the rule reader, and no step with that or with `Lines`.
 #[derive(Drop)]
 struct Reader<'a> {
     text: &'a [u8],
     at: usize,
+    heap: Global,
     ghost within: { at ≤ length text.now },
 }
 
@@ -39,11 +41,11 @@ impl Reader<'_> {
     }
 
     // The letters up to `>`, and the `>`.
-    fn marks(&mut self, heap: Global) -> Result<Vec<u8>, RowFault>
+    fn marks(&mut self) -> Result<Vec<u8>, RowFault>
         ensures same { self.new.text ≡ self.old.text }
         ensures took { MarksOr self.old.at (drop self.old.at self.old.text.now) (drop self.new.at self.new.text.now) result }
     {
-        let mut marks = Vec::new(heap);
+        let mut marks = Vec::new(self.heap);
         let mut low = b'a';
         while let Some(b) = self.peek() {
             match b {
@@ -76,11 +78,12 @@ impl Reader<'_> {
         }
     }
 
-    // All targets, with the place of the first that is not below `count`.
-    fn targets(&mut self, heap: Global, count: usize) -> Result<(Vec<u16>, Option<usize>), RowFault>
+    // All targets, with the place of the first that is not below `count`: a pair and no error, since such a
+    // target is told only where no line has another fault.
+    fn targets(&mut self, count: usize) -> Result<(Vec<u16>, Option<usize>), RowFault>
         ensures { TargetsOr count self.old.at (drop self.old.at self.old.text.now) result }
     {
-        let mut targets = Vec::new(heap);
+        let mut targets = Vec::new(self.heap);
         let mut beyond = None;
         let mut low = 0;
         loop {
@@ -96,12 +99,12 @@ impl Reader<'_> {
         }
     }
 
-    fn row(&mut self, heap: Global, count: usize) -> Result<(Row, Option<usize>), RowFault>
+    fn row(&mut self, count: usize) -> Result<(Row, Option<usize>), RowFault>
         ensures { LineOr count self.old.at (drop self.old.at self.old.text.now) result }
     {
         let start = self.sign()?;
-        let marks = self.marks(heap)?;
-        let (targets, beyond) = self.targets(heap, count)?;
+        let marks = self.marks()?;
+        let (targets, beyond) = self.targets(count)?;
         Ok((
             Row {
                 start,
@@ -130,6 +133,6 @@ pub(crate) fn read_row(
     requires { at ≤ length text.now }
     ensures { LineOr count at (drop at text.now) result }
 {
-    let mut reader = Reader { text, at };
-    reader.row(heap, count)
+    let mut reader = Reader { text, at, heap };
+    reader.row(count)
 }

@@ -35,7 +35,8 @@ impl RuleFault {
         }
     }
 
-    // The place in the text that the refusal points at; 0 where it points at none, as a listing tells it.
+    // The place in the text that the refusal points at; 0 where it points at none: a listing adds it to the place
+    // where its line begins.
     pub fn place(&self) -> usize
         ensures { result ≡ place self.now }
     {

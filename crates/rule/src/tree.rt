@@ -7,9 +7,8 @@ use crate::opposite::Opposite;
 use ctl::{Binary, Connective, Quantifier, Unary};
 use std::alloc::{AllocError, Global};
 
-// A rule: 0 or 1; a letter that a state carries (true) or lacks (false), by its byte: a bool, as a model's
-// answer that it is compared with; two rules
-// joined; a path part under A or E.
+// A rule: 0 or 1; a letter that a state carries (true) or lacks (false), by its byte; two rules joined; a path
+// part under A or E. Carried or not is a bool, as a model's answer is, which it is compared with.
 #[cycle(rule)]
 #[derive(Drop)]
 pub enum Rule {

@@ -4,7 +4,8 @@
 
 use std::alloc::{AllocError, Global};
 
-// A text, and what it is refused with, by number and place; or nothing, if it is taken.
+// A text, and what it is refused with; or nothing, if it is taken. By number and place and not by the fault, so
+// that `number` and `place` are tried too.
 pub struct Case {
     pub text: &'static str,
     pub refusal: Option<(u8, usize)>,

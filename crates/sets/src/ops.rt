@@ -129,7 +129,8 @@ impl StateSet {
         self.intersect(*other).next(0).is_some()
     }
 
-    // The lowest member at or above `from`. Promised for any `from`; this code asks from 0.
+    // The lowest member at or above `from`. Promised for any `from`, though the crates here ask from 0: a
+    // public promise, kept.
     pub fn next(&self, from: usize) -> Option<usize>
         ensures { MatchOption result ((i : ℕ) → from ≤ i → member self.now i ≡ false) (λ t. (t < state_limit) × LowestFrom (member self.now) from t) }
     {

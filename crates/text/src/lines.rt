@@ -6,7 +6,8 @@ ghost use Rattle.text.specs.Lines.{NextLine};
 use crate::pieces::piece_end;
 use std::ops::Range;
 
-// Each line as the places from its front up to its byte 10; what no byte 10 ends is no line.
+// Each line as the places from its front up to its byte 10; what no byte 10 ends is no line. The readers of a row
+// and of a rule keep a text and a place too, and take other steps.
 #[derive(Drop)]
 pub struct Lines<'a> {
     text: &'a [u8],
