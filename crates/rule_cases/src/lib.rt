@@ -2,8 +2,6 @@
 // contract is proved; these show its meaning by example, and that memory never runs out on them.
 #![tactic(auto)]
 
-use std::alloc::{AllocError, Global};
-
 // A text, and what it is refused with; or nothing, if it is taken. By number and place and not by the fault, so
 // that `number` and `place` are tried too.
 pub struct Case {
@@ -572,23 +570,6 @@ pub static ROOTS: [Root; 12] = [
         negated: "A",
     },
 ];
-
-// The text of a nest.
-pub fn text_of(heap: Global, nest: &Nest) -> Result<String, AllocError> {
-    let open = nest.open.repeat(heap, nest.times)?;
-    let close = nest.close.repeat(heap, nest.times)?;
-    format!(in heap; "{open}{}{close}", nest.middle)
-}
-
-// What a byte alone is refused with.
-pub fn alone(byte: u8) -> Option<(u8, usize)> {
-    match byte {
-        b'a'..=b'z' | b'0' | b'1' => None,
-        b'!' | b'(' | b'A' | b'E' | b' ' => Some((9, 1)),
-        b'&' | b'|' | b')' | b'X' | b'F' | b'G' | b'U' | b'R' => Some((8, 0)),
-        _ => Some((7, 0)),
-    }
-}
 
 #[cfg(test)]
 mod tests;

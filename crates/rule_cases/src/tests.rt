@@ -1,9 +1,9 @@
 // The reader over the tables.
-use crate::{CASES, NESTS, PLACES, ROOTS, alone, text_of};
+use crate::{CASES, NESTS, Nest, PLACES, ROOTS};
 use ctl::{Connective, Quantifier};
 use rule::{Rule, RuleFault};
 use rule_reader::read_rule;
-use std::alloc::Global;
+use std::alloc::{AllocError, Global};
 use std::test::Fail;
 
 // The number and place that `text` is refused with, if it is. Want of memory, which has no number, is
@@ -26,6 +26,13 @@ fn each_text_is_answered_as_the_table_says(rt: HostRuntime) -> Result<(), Fail> 
         );
     }
     Ok(())
+}
+
+// The text of a nest.
+fn text_of(heap: Global, nest: &Nest) -> Result<String, AllocError> {
+    let open = nest.open.repeat(heap, nest.times)?;
+    let close = nest.close.repeat(heap, nest.times)?;
+    format!(in heap; "{open}{}{close}", nest.middle)
 }
 
 #[test]
@@ -57,6 +64,16 @@ fn each_sign_is_refused_where_it_is_misplaced(rt: HostRuntime) -> Result<(), Fai
         }
     }
     Ok(())
+}
+
+// What a byte alone is refused with.
+fn alone(byte: u8) -> Option<(u8, usize)> {
+    match byte {
+        b'a'..=b'z' | b'0' | b'1' => None,
+        b'!' | b'(' | b'A' | b'E' | b' ' => Some((9, 1)),
+        b'&' | b'|' | b')' | b'X' | b'F' | b'G' | b'U' | b'R' => Some((8, 0)),
+        _ => Some((7, 0)),
+    }
 }
 
 #[test]

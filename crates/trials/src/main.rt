@@ -2,6 +2,7 @@
 //
 // The listing follows the definitions as directly as code can: all k-paths are written out and asked, all simple paths are
 // written out and counted. It shares nothing with the evaluator but the rule tree and the model's four questions.
+// It is a test: that its functions are safe and end is proved, and what they answer is not.
 #![tactic(auto)]
 
 mod listing;

@@ -4,7 +4,7 @@ ghost use Rattle.std.specs.Prelude.{◌<◌};
 use std::alloc::{AllocError, Global};
 
 #[derive(Clone, Copy)]
-pub struct Random(pub u64);
+pub(crate) struct Random(pub(crate) u64);
 
 impl Random {
     fn next(&mut self) -> u64 {
@@ -17,7 +17,7 @@ impl Random {
     }
 
     // A number below n; 0 if n is 0, so that callers need not show that it is not.
-    pub fn below(&mut self, n: usize) -> usize
+    pub(crate) fn below(&mut self, n: usize) -> usize
         ensures { 0 < n → result < n }
     {
         let x = self.next().wrapping_shr(11);
@@ -57,7 +57,7 @@ fn random_line(heap: Global, random: &mut Random, count: usize) -> Result<String
 }
 
 // A row text of one to five lines.
-pub fn random_rows(heap: Global, random: &mut Random) -> Result<String, AllocError> {
+pub(crate) fn random_rows(heap: Global, random: &mut Random) -> Result<String, AllocError> {
     let mut text = String::new(heap);
     let count = random.below(5).saturating_add(1);
     for _ in 0..count {
@@ -82,7 +82,11 @@ const JOINTS: [(&str, &str); 6] = [
 ];
 
 // Appends a unit of at most so many layers.
-pub fn random_rule(random: &mut Random, layers: u8, text: &mut String) -> Result<(), AllocError> {
+pub(crate) fn random_rule(
+    random: &mut Random,
+    layers: u8,
+    text: &mut String,
+) -> Result<(), AllocError> {
     if layers == 0 {
         return text.push_str(random.pick(&LEAVES));
     }

@@ -3,22 +3,22 @@ use std::ops::{BitAnd, BitOr, Not};
 
 // State s is a member if bit s is set: a trial's models have a few states only.
 #[derive(Clone, Copy, PartialEq, Eq, Debug)]
-pub struct States(u32);
+pub(crate) struct States(u32);
 
 impl States {
-    pub fn none() -> States {
+    pub(crate) fn none() -> States {
         States(0)
     }
 
-    pub fn all() -> States {
+    pub(crate) fn all() -> States {
         States(u32::MAX)
     }
 
-    pub fn has(self, state: u16) -> bool {
+    pub(crate) fn has(self, state: u16) -> bool {
         self.0.wrapping_shr(u32::from(state)) & 1 == 1
     }
 
-    pub fn with(self, state: u16) -> States {
+    pub(crate) fn with(self, state: u16) -> States {
         States(self.0 | 1u32.wrapping_shl(u32::from(state)))
     }
 }
