@@ -1,13 +1,15 @@
 // A whole row text, line by line.
-ghost use Rattle.std.specs.Prelude.{◌≡◌, if◌then◌else◌, Some, None};
+ghost use Rattle.std.specs.Prelude.{◌≡◌, ◌≤◌, if◌then◌else◌, Some, None, length, take, drop};
 ghost use Rattle.rowtext.specs.Claims.{RowTextHasOneAnswer};
 ghost use Rattle.rowtext.specs.Faults.{Reads, has_lines};
+ghost use Rattle.rowtext.specs.Steps.{LineOr};
 ghost use Rattle.text.specs.Pieces.{newlines};
 
 use crate::fault::RowFault;
 use crate::reader::read_row;
 use crate::row::{MOST_ROWS, Row};
 use std::alloc::Global;
+use std::ops::Range;
 use text::lines::Lines;
 use text::pieces::count_lines;
 
@@ -15,8 +17,24 @@ use text::pieces::count_lines;
 fn lawful_count(text: &[u8]) -> Option<usize>
     ensures { result ≡ (if has_lines text.now then Some (newlines text.now) else None) }
 {
+    if text.last() != Some(&b'\n') {
+        return None;
+    }
     let count = count_lines(text);
-    (text.last() == Some(&b'\n') && count <= MOST_ROWS).then_some(count)
+    (count <= MOST_ROWS).then_some(count)
+}
+
+// The row of one line of the text.
+fn read_line(
+    heap: Global,
+    text: &[u8],
+    line: Range<usize>,
+    count: usize,
+) -> Result<(Row, Option<usize>), RowFault>
+    requires { (line.start ≤ line.end) × (line.end ≤ length text.now) }
+    ensures { LineOr count line.start (drop line.start (take line.end text.now)) result }
+{
+    read_row(heap, &text[..line.end], line.start, count)
 }
 
 // The rows that the text describes, or its first fault.
@@ -27,7 +45,7 @@ pub fn read_rows(heap: Global, text: &[u8]) -> Result<Vec<Row>, RowFault>
     let mut rows = Vec::new(heap);
     let mut beyond = None;
     for line in Lines::of(text) {
-        let (row, late) = read_row(heap, &text[..line.end], line.start, count)?;
+        let (row, late) = read_line(heap, text, line, count)?;
         rows.push(row)?;
         beyond = beyond.or(late);
     }

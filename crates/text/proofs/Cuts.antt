@@ -2,7 +2,8 @@
 use Rattle.std.proofs.Common.{◌≡◌, ℕ, suc, ◌+◌, ◌-◌, ◌<◌, ◌≤◌, List, [], ◌∷◌, ◌++◌, length, get_or, take, drop, decimal, sym, refl, ap, ◌∙◌, subst, Some, None, Option, MatchOption, unwrap_or, ⊎_elim, arith}
 use Rattle.std.proofs.lemmas.Fmt.{digits_decimal}
 use Rattle.std.proofs.lemmas.List.{drop_more, drop_all, drop-drop, take-append-drop, length-take-le, length-drop, get_or-take, get_or-drop, length-append, append_cancel_left}
-use Rattle.std.specs.List.{AllWithin, HoldsAt}
+use Rattle.std.specs.List.{AllWithin, HoldsAt, between}
+use Rattle.std.proofs.lemmas.Slice.{between_to_end}
 use Rattle.std.specs.Prelude.{◌≢◌}
 use Rattle.std.proofs.str.Laws.{order}
 use Rattle.text.proofs.Digits.{Figures, own}
@@ -82,6 +83,18 @@ ends_at_first d text at None l h = record {
   free = λ k a b e. let j : at + (k - at) ≡ k = omega arith in h (k - at) 0 (omega arith) (omega (arith, length-drop at text)) (get_or-drop at text (k - at) 0 ∙ ap (λ i. get_or text i 0) j ∙ e);
   stops = λ k. absurd (omega (arith, length-drop at text));
 }
+
+-- where a piece ends in what is left of a text from `at` on
+pub ends_behind : (d : ℕ) (text : List ℕ) (at n : ℕ) → at ≤ length text → PieceEnd d (between at (length text) text) 0 n → PieceEnd d text at (at + n)
+ends_behind d text at n l ends =
+    let left = between_to_end text at (length text) (omega arith) in
+    let e = subst (λ xs. PieceEnd d xs 0 n) left ends in
+    record {
+      onward = omega arith;
+      within = omega (arith, e.within, length-drop at text);
+      free = λ k a b f. let j : at + (k - at) ≡ k = omega arith in e.free (k - at) (omega arith) (omega arith) (get_or-drop at text (k - at) 0 ∙ ap (λ i. get_or text i 0) j ∙ f);
+      stops = λ h. sym (get_or-drop at text n 0) ∙ e.stops (omega (arith, length-drop at text));
+    }
 
 -- a line of a text is one of the same text
 pub same_line : {text text' : List ℕ} {at behind : ℕ} {line : Range ℕ} → text' ≡ text → IsLine text' at behind line → IsLine text at behind line
