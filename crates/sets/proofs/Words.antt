@@ -1,12 +1,13 @@
 -- Words of bits, at any place.
-use Rattle.std.proofs.Common.{◌≡◌, ℕ, ◌*◌, ◌/◌, ◌%◌, ◌^◌, ◌<◌, ◌≤◌, Bool, false, not, ◌&&◌, ◌||◌, eqb, List, length, get_or, set, sym, refl, ap, ◌∙◌, ⊎_elim, w64, arith}
+use Rattle.std.proofs.Common.{◌≡◌, ℕ, ◌*◌, ◌/◌, ◌%◌, ◌^◌, ◌<◌, ◌≤◌, Bool, true, false, not, ◌&&◌, ◌||◌, eqb, List, length, get_or, set, sym, refl, ap, ◌∙◌, Some, None, Option, MatchOption, ⊎_elim, w64, arith}
 use lib.Bits.{bit_and, bit_or}
 use Rattle.std.specs.Int.{bit_not}
+use Rattle.std.specs.Option.{is_some}
 use Rattle.std.proofs.lemmas.List.{get_or-set_same, get_or-set_other, get_or_past}
 use Rattle.std.proofs.lemmas.Nat.Bits.{bit_at_set_same, bit_at_set_other, bit_at_clear_same, bit_at_clear_other}
 use Rattle.std.proofs.Math.Bool.{and-true}
-use Rattle.std.proofs.lemmas.Bool.{cases_eq, cases_lt, and_right, eq-eqb, ne_eqb}
-use Rattle.sets.specs.Sets.{bit}
+use Rattle.std.proofs.lemmas.Bool.{cases_eq, cases_lt, and_right, eq-eqb, false≢true, ne_eqb}
+use Rattle.sets.specs.Sets.{bit, LowestFrom}
 use Rattle.sets.proofs.Bits.{no_bit}
 
 pub past : (ws : List ℕ) (s : ℕ) → length ws ≤ s / 64 → bit (get_or ws (s / 64) 0) (s % 64) ≡ false
@@ -48,3 +49,9 @@ drop_bit ws s t h = one_word ws s _ t _ h
     (λ ne. ap (λ d. eqb d 1) (bit_at_clear_other w64 (get_or ws (s / 64) 0) (s % 64) (omega arith) (t % 64) (omega arith) ne) ∙ rw (ne_eqb t s (λ e. ne (ap (λ x. x % 64) e)), q) (sym (and-true _)))
     (cases_eq (t % 64) (s % 64)))
     (λ ne. rw (ne_eqb t s ne) (sym (and-true _)))
+
+-- a word that has a lowest bit has a bit
+pub bit_there : (w : ℕ) (low : Option ℕ) → is_some low ≡ true → MatchOption low ((i : ℕ) → 0 ≤ i → i < 64 → bit w i ≡ false) (λ t. (t < 64) × LowestFrom (bit w) 0 t)
+    → (t : ℕ) × (t < 64) × (bit w t ≡ true)
+bit_there w None e h = absurd (false≢true e)
+bit_there w (Some t) e h = (t, h.0, h.1.passes)

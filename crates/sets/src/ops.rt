@@ -9,6 +9,15 @@ use crate::lowest::lowest_bit;
 use crate::set::{StateSet, WORDS};
 use std::array;
 
+// Is some bit in both words?
+#[tactic(auto, using(crate::proofs::Bits::bit_of_and, crate::proofs::Words::bit_there))]
+fn words_meet(a: u64, b: u64) -> bool
+    ensures some { result ≡ true → (t : ℕ) × (t < 64) × ((bit a t && bit b t) ≡ true) }
+    ensures none { result ≡ false → (i : ℕ) → i < 64 → (bit a i && bit b i) ≡ false }
+{
+    lowest_bit(a & b, 0).is_some()
+}
+
 impl StateSet {
     pub fn none() -> StateSet
         ensures { (s : ℕ) → member result s ≡ false }
@@ -122,11 +131,16 @@ impl StateSet {
         )
     }
 
-    // Is some state in both?
+    // Is some state in both? A loop over the words: this is asked of every state in every round.
     pub fn meets(&self, other: &StateSet) -> bool
         ensures { (result ≡ false → (s : ℕ) → (member self.now s && member other.now s) ≡ false) × (result ≡ true → (s : ℕ) × ((member self.now s && member other.now s) ≡ true)) }
     {
-        self.intersect(*other).next(0).is_some()
+        for i in 0..WORDS {
+            if words_meet(self.words[i], other.words[i]) {
+                return true;
+            }
+        }
+        false
     }
 
     // The lowest member at or above `from`. Promised for any `from`, though the crates here ask from 0: a

@@ -43,7 +43,7 @@ impl<'a> Reader<'a> {
         ensures reads { MatchResult result (λ f. IsChain op (ahead self.old) (formula f) (ahead self.new) × OperandEnded op (ahead self.new) × Clear (ConnectiveSign op) (ahead self.new)) (HaltsAhead need self.old) }
     {
         let mut left = self.operand(op)?;
-        while self.peek() == Some(Sign::Connective(op)) {
+        while matches!(self.peek(), Some(Sign::Connective(next)) if next == op) {
             self.pass();
             let right = self.operand(op)?;
             left = Rule::joined(self.heap, op, left, right)?;

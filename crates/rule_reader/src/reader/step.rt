@@ -61,6 +61,6 @@ fn leading_spaces(text: &[u8]) -> usize
     ensures solid { Clear Space (drop result text.now) }
 {
     text.iter()
-        .position(|byte| Sign::from(*byte) != Sign::Space)
+        .position(|byte| !matches!(Sign::from(*byte), Sign::Space))
         .unwrap_or(text.len())
 }
